@@ -25,7 +25,7 @@ pub record Program : Type 0 where
   pub code : List ℕ
   pub main : Span
   pub functions : List Function
-  -- one for each byte of the code, where they aren't stripped
+  -- one for each byte of the code, if they aren't stripped
   pub positions : Option (List Position)
   pub debug_id : ℕ
   pub residuals : ℕ
@@ -61,7 +61,7 @@ made caps code main functions parts = record {
   source = option_map string_bytes parts.source;
 }
 
--- the places of the code's bytes, where they aren't stripped
+-- the places of the code's bytes, if they aren't stripped
 abbrev pub places_of : Program → Option (List Place)
 places_of p = option_map (λ positions. map place_of positions) p.positions
 

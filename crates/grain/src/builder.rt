@@ -41,7 +41,7 @@ pub struct Head {
     pub params: Vec<u32>,
     /// Who may call it.
     pub access: FnAccess,
-    /// The name of the type of the receiver, where the function is declared for one.
+    /// The name of the type of the receiver, if the function is declared for one.
     pub this_type: Option<u32>,
 }
 
@@ -57,7 +57,7 @@ pub enum BuildError {
     },
     /// The program is refused. Addresses are those of the code that the operations make.
     Verify(VerifyError),
-    /// A growth was refused.
+    /// An allocation failed.
     OutOfMemory,
 }
 
@@ -190,7 +190,7 @@ fn lay_cuts(
     Ok((program, offsets))
 }
 
-/// Assembles a program from operations whose targets are indices, as [`build`] does, and doesn't verify it. The result is also where
+/// Assembles a program from operations whose targets are indices, as [`build`] does, and doesn't verify it. The result is also if
 /// each operation begins in the code, and where the last one ends.
 ///
 /// # Errors

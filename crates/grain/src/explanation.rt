@@ -16,20 +16,20 @@ use std::alloc::Global;
 pub struct Explained {
     /// The greatest operand count that any run of each chunk reaches, or why the program is refused and for which chunk.
     pub verdict: Result<Vec<u16>, Refusal>,
-    /// Each chunk in order, those behind a refused one too. There are none where a test before the chunks fails.
+    /// Each chunk in order, those behind a refused one too. There are none if a test before the chunks fails.
     pub chunks: Vec<ExplainedChunk>,
 }
 
 /// Verifies as [`crate::verify_read`] does, with the same promise of kept runs, and explains each chunk as
 /// [`explain_chunks`] does.
 ///
-/// Where the tests before the chunks pass, each chunk is explained: where it passes by rows that are a stack typing of it and
+/// If the tests before the chunks pass, each chunk is explained: if it passes by rows that are a stack typing of it and
 /// just what is reached, else by a flaw of it with the way to it. The first chunk that has a flaw is the one that the verdict
 /// names; that its flaw is the very one of the verdict is by the order of both walks, which no contract says. It takes the time of
 /// both, and memory as [`explain_chunks`] does.
 ///
 /// # Errors
-/// `OutOfMemory` where an allocation failed, and no other: code that is bad is refused by the verdict, without an explained chunk.
+/// `OutOfMemory` if an allocation failed, and no other: code that is bad is refused by the verdict, without an explained chunk.
 #[tactic(auto, using(crate::proofs::RefusalCauses::located_explained, crate::proofs::RefusalCauses::accepted_explained, crate::proofs::RefusalCauses::located_reaches))]
 pub fn explain<'a, P: Read>(
     alloc: Global,

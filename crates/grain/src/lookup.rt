@@ -50,7 +50,7 @@ impl Program {
             .find(|function| is_untyped(function, name, argc))
     }
 
-    /// The first function of this name and as many parameters that is declared for a receiver of that type; where there is
+    /// The first function of this name and as many parameters that is declared for a receiver of that type; if there is
     /// none, the first that is declared for no receiver. The name is an index, the type a text.
     ///
     /// It takes time by the number of functions and, for those of this name and as many parameters, by the length of the

@@ -36,7 +36,7 @@ pub struct Parts {
     pub chains: Vec<Chain>,
     /// The switches.
     pub switches: Vec<Switch>,
-    /// What the source text is called, where that is known.
+    /// What the source text is called, if that is known.
     pub source: Option<String>,
 }
 
@@ -156,7 +156,7 @@ impl Program {
         self.parts.residuals
     }
 
-    /// What the source text is called, where that is known.
+    /// What the source text is called, if that is known.
     pub fn source(&self) -> Option<&str>
         ensures { option_map (λ source. source.now) result ≡ self.now.source }
     {

@@ -33,7 +33,7 @@ impl Program {
     /// Writes the positions of the program, which keeps them, as [`Positions::to_table`] and [`sites::encode`] do.
     ///
     /// # Errors
-    /// `AddressTooWide` where a position that has a line is above 4294967295, and `OutOfMemory` where there is no memory
+    /// `AddressTooWide` if a position that has a line is above 4294967295, and `OutOfMemory` if there is no memory
     /// for what is written.
     pub fn sidecar(&self) -> Result<Sidecar, StripError>
         ensures ok { IfOk result (IsSidecar self.now) }
@@ -96,9 +96,9 @@ impl Program {
     /// memory for the positions and the sites.
     ///
     /// # Errors
-    /// The first test that fails, by its name: `WrongProgram` where the sidecar is of another program; `Malformed` and
-    /// `PastTheEnd` as [`Positions::from_table`]; `ChainStream` where its stream is none; `ChainCount` where the stream has not
-    /// as many slots as the chains have positions. Of these no more are counted than a `usize` holds. `OutOfMemory` where
+    /// The first test that fails, by its name: `WrongProgram` if the sidecar is of another program; `Malformed` and
+    /// `PastTheEnd` as [`Positions::from_table`]; `ChainStream` if its stream is none; `ChainCount` if the stream has not
+    /// as many slots as the chains have positions. Of these no more are counted than a `usize` holds. `OutOfMemory` if
     /// there is no memory for what is read. Each time the program is unchanged.
     pub fn attach_positions(&mut self, sidecar: &Sidecar) -> Result<(), TableError>
         ensures attached { OnOk result (IsAttached self.old sidecar.now self.new) }

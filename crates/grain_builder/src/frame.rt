@@ -17,7 +17,7 @@ pub struct Base {
     pub iterators: usize,
 }
 
-/// What the handler that was armed last stands on, or empty stacks where none is armed.
+/// What the handler that was armed last stands on, or empty stacks if none is armed.
 fn last_of(bases: &[Base]) -> Base
     ensures { frame_base result ≡ last_base (map frame_base bases.now) }
 {

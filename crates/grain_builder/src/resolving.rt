@@ -25,7 +25,7 @@ pub struct Assembled {
     pub cuts: Vec<Cut>,
 }
 
-/// The operation to which a label is bound, or the first one where there is no such label.
+/// The operation to which a label is bound, or the first one if there is no such label.
 fn target(places: &[u32], label: u32) -> u32
     ensures { result ≡ slice_index places.now label }
 {

@@ -18,7 +18,7 @@ pub(crate) fn too_many(place: Place) -> CompileError {
     CompileError::new(place, Problem::TooMany(Thing::Items))
 }
 
-/// How many operands an operation takes and gives where no pool decides it.
+/// How many operands an operation takes and gives if no pool decides it.
 fn effect_of(op: &Op) -> (usize, usize)
     ensures { result ≡ (taken op.now, given op.now) }
 {

@@ -36,7 +36,7 @@ pub enum AssembleError {
         /// The greatest `usize`.
         bytes: usize,
     },
-    /// A growth was refused.
+    /// An allocation failed.
     OutOfMemory,
 }
 

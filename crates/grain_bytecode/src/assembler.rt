@@ -201,7 +201,7 @@ fn code_of(alloc: Global, ops: &[Op], offsets: &[u32]) -> Result<Vec<u8>, AllocE
 /// operation, field by field, of a call through a name that name first, [`AssembleError::PoolTooLarge`] for an index
 /// into a pool above 65535 and [`AssembleError::JumpOutOfRange`] for a target above the number of operations.
 ///
-/// [`AssembleError::OutOfMemory`] if the operations can be assembled, and a growth was refused.
+/// [`AssembleError::OutOfMemory`] if the operations can be assembled, and an allocation failed.
 pub fn assemble(alloc: Global, ops: &[Op]) -> Result<(Vec<u8>, Vec<u32>), AssembleError>
     // The offsets but the last are the starts of the code, and the last is its length.
     ensures assembly { IfOk result (λ made. IsAssembly ops.now made.0.items made.1.items) }

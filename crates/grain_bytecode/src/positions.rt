@@ -33,7 +33,7 @@ pub enum Positions {
 pub enum StripError {
     /// A position that has a line is at an address above 4294967295.
     AddressTooWide,
-    /// A growth was refused.
+    /// An allocation failed.
     OutOfMemory,
 }
 
@@ -100,7 +100,7 @@ pub enum TableError {
         /// How many positions the chains carry.
         slots: usize,
     },
-    /// A growth was refused.
+    /// An allocation failed.
     OutOfMemory,
 }
 

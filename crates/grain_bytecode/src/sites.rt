@@ -34,7 +34,7 @@ pub enum StreamError {
         /// How many they are.
         count: usize,
     },
-    /// A growth was refused.
+    /// An allocation failed.
     OutOfMemory,
 }
 

@@ -36,7 +36,7 @@ no_content = record {
 abbrev pub heap : Global
 heap = record { memory = record { seal = tt } }
 
--- where something is kept, it in a block of the heap and the right to free that block; else nothing
+-- if something is kept, it in a block of the heap and the right to free that block; else nothing
 abbrev pub holds : Bool → Ptr → the_row.Denot → Fml
 holds true p x = box_owns (ghosts.dealloc_token heap) the_row p x
 holds false p x = ftrue

@@ -6,7 +6,7 @@ use Rattle.grain_flat.specs.Work.{work_of}
 use Rattle.grain_flat.specs.declared.records.CProgram.{CProgram}
 use Rattle.grain_c.specs.declared.status.TheConstants.{ACCEPTED, SHORT, NOT_FLAT, TOO_MUCH_WORK}
 
--- where depths are found, the program is accepted
+-- if depths are found, the program is accepted
 abbrev pub status_of : Result (Vec ℕ Global) ℕ → ℕ
 status_of (Ok depths) = ACCEPTED
 status_of (Err status) = status

@@ -7,7 +7,7 @@ use Rattle.std.specs.Global.{Global}
 use Rattle.std.specs.contracts.impls.GlobalAllocator.TheImpl.{ghosts}
 use Rattle.grain_flat.specs.contracts.scratch.FlatScratch.{the_row}
 
--- where something is kept, a scratch in a block of the heap and the right to free that block; else nothing
+-- if something is kept, a scratch in a block of the heap and the right to free that block; else nothing
 abbrev pub keeps : Bool → Ptr → Fml
 keeps true p = fex (Global × the_row.Denot) (λ x. box_owns (ghosts.dealloc_token x.0) the_row p x.1)
 keeps false p = ftrue

@@ -2,7 +2,7 @@
 use Rattle.std.specs.Prelude.{◌≡◌, ◌⊎◌, ℕ, ◌+◌, ◌-◌, ◌<◌, List, ◌∷◌, ◌++◌, drop, length, take}
 
 -- The text stands in front of the room, as far as there is room for it and for the 0 that ends it, and the rest of the room
--- is as it was. Where there is no room, nothing is written.
+-- is as it was. If there is no room, nothing is written.
 abbrev pub IsPrinted : List ℕ → List ℕ → List ℕ → Type 0
 IsPrinted text room written =
     ((length room ≡ 0) × (written ≡ room))

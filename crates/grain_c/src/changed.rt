@@ -24,9 +24,9 @@ fn put(room: &mut [u8], file: &[u8])
 /// Reads a program file within the limits, verifies its program, and writes the file of the same program whose chunks declare
 /// their depths. Of as many bytes as were read the room is never too short.
 ///
-/// 0 where it is written, with its size and how many instructions were visited. 2 where the room is too short: then only its size
-/// is written. 1 where the program is refused: then the report is written. 9 where the bytes are no file within the limits: then
-/// why is written. 5 where the chunks span more bytes of the code than the limit. 3 where the allocator refused.
+/// 0 if it is written, with its size and how many instructions were visited. 2 if the room is too short: then only its size
+/// is written. 1 if the program is refused: then the report is written. 9 if the bytes are no file within the limits: then
+/// why is written. 5 if the chunks span more bytes of the code than the limit. 3 if the allocator refused.
 #[unsafe(no_mangle)]
 pub extern "C" fn grain_proved_file_tighten(
     alloc: Global,

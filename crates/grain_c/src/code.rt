@@ -73,7 +73,7 @@ fn width_of(fields: &[CField; 3]) -> u8
     1 + field_size(fields[0]) + field_size(fields[1]) + field_size(fields[2])
 }
 
-/// The instruction at an address. False where none stands there, and then nothing is written.
+/// The instruction at an address. False if none stands there, and then nothing is written.
 #[unsafe(no_mangle)]
 pub extern "C" fn grain_proved_instruction(
     code: &[u8],

@@ -53,7 +53,7 @@ fn counts_of(found: &ExplainedChunk, made: &ExplanationRows, before: &CExplanati
 /// Explains the chunk of a program with this index: what stands at each instruction that is visited, and where the chunk is
 /// refused a path to its flaw, for a conflict another path too.
 ///
-/// Where it passes the rows are a stack typing of it, and just what is reached. Where it is refused, why is written. In both
+/// If it passes the rows are a stack typing of it, and just what is reached. If it is refused, why is written. In both
 /// cases as many rows and bases are written as there is room for, and how many there are. That the pools are flat is tested
 /// first, and then the index. Constants and functions aren't looked at.
 #[unsafe(no_mangle)]

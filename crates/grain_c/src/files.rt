@@ -33,7 +33,7 @@ pub(crate) fn limits_of(limits: &CLimits) -> Limits
     }
 }
 
-/// What is answered where a file isn't read. Why it is none is written.
+/// What is answered if a file isn't read. Why it is none is written.
 pub(crate) fn stopped(stop: &FileStop, error: &mut CReadError) -> u32
     ensures { IsStopAnswer stop.now error.old error.new result }
 {

@@ -20,7 +20,7 @@ pub(crate) fn shown(meter: &Meter) -> u64
     u64::try_from(meter.count()).unwrap_or(u64::MAX)
 }
 
-/// What is answered before any verification, where something bars one.
+/// What is answered before any verification, if something bars one.
 fn bar(program: &CProgram<'_>, room: usize, limit: u64) -> Option<u32>
     ensures bars { IfSome result (IsBar limit program.now room) }
     ensures clear { IfNone result (IsClear limit program.now room) }

@@ -6,7 +6,7 @@ ghost use Rattle.grain_flat.specs.PoolsFlaws.{PoolsFlaw};
 
 use grain_flat::{CPools, CPoolsFlaw, pools_flaw};
 
-/// Whether pools are flat. Where they aren't, the first entry that is wrong is written, of the first list that is.
+/// Whether pools are flat. If they aren't, the first entry that is wrong is written, of the first list that is.
 #[unsafe(no_mangle)]
 pub extern "C" fn grain_proved_check_pools(pools: &CPools<'_>, flaw: &mut CPoolsFlaw) -> bool
     ensures flat { MatchBool result (Pooled pools.now) (Pooled pools.now → ⊥) }

@@ -3,7 +3,7 @@
 /// Nothing is wrong.
 pub const SOUND: u32 = 0;
 
-/// The bytes end where a number is due or isn't finished.
+/// The bytes end if a number is due or isn't finished.
 pub const TRUNCATED: u32 = 1;
 
 /// A number or an address is above 4294967295.

@@ -40,7 +40,7 @@ fn stream_flaw(error: StreamError) -> (u32, u64)
     }
 }
 
-/// The place of an address in an address table: of the first entry there, before the first damage. False where there is none,
+/// The place of an address in an address table: of the first entry there, before the first damage. False if there is none,
 /// and then nothing is written.
 #[unsafe(no_mangle)]
 pub extern "C" fn grain_proved_site(table: &[u8], address: u32, place: &mut CPlace) -> bool
@@ -79,7 +79,7 @@ pub extern "C" fn grain_proved_check_table(table: &[u8], named: &mut u64) -> u32
     }
 }
 
-/// The place that a stream records for a slot. False where it records none, and then nothing is written.
+/// The place that a stream records for a slot. False if it records none, and then nothing is written.
 #[unsafe(no_mangle)]
 pub extern "C" fn grain_proved_stream_site(stream: &[u8], slot: u32, place: &mut CPlace) -> bool
     ensures found { OnTrue result (Records stream.now slot
@@ -128,7 +128,7 @@ pub extern "C" fn grain_proved_table_entries(table: &[u8], entries: &mut [CEntry
 }
 
 /// Writes the places of a stream, slot by slot, in front of the list, as many as it has places for, and how many slots there
-/// are. Line 0 says that a slot has no place. False where the bytes are no stream, and then nothing is written.
+/// are. Line 0 says that a slot has no place. False if the bytes are no stream, and then nothing is written.
 #[unsafe(no_mangle)]
 pub extern "C" fn grain_proved_stream_sites(
     stream: &[u8],

@@ -41,7 +41,7 @@ fn tighten_in(
     }
 }
 
-/// Verifies a program as `grain_proved_verify_with` does. Where it is accepted, its chunks are written, each declaring its depth.
+/// Verifies a program as `grain_proved_verify_with` does. If it is accepted, its chunks are written, each declaring its depth.
 /// With these it is accepted again.
 #[unsafe(no_mangle)]
 pub extern "C" fn grain_proved_tighten(

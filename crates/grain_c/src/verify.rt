@@ -43,10 +43,10 @@ pub(crate) fn verify_in(
 
 /// Verifies a program: its code, its chunks, and its pools.
 ///
-/// 0 where it is accepted: then the depth of each chunk is written, which is the greatest operand count that any run of it reaches.
-/// 1 where it is refused: then the refusal is written. In both cases it is written how many instructions were visited. Tested
+/// 0 if it is accepted: then the depth of each chunk is written, which is the greatest operand count that any run of it reaches.
+/// 1 if it is refused: then the refusal is written. In both cases it is written how many instructions were visited. Tested
 /// first are, in this order: 4, no pools have this flat form; 2, there are fewer places than chunks; 5, the chunks span more
-/// bytes of the code than the limit. 3 where the allocator refused.
+/// bytes of the code than the limit. 3 if the allocator refused.
 #[unsafe(no_mangle)]
 pub extern "C" fn grain_proved_verify(
     alloc: Global,
@@ -76,7 +76,7 @@ pub extern "C" fn grain_proved_verify(
 
 /// Verifies a program as `grain_proved_verify` does, in the memory that the scratch keeps, whatever it was used for before.
 ///
-/// It takes memory only where the scratch keeps less than the program needs, and the scratch keeps as much as programs needed
+/// It takes memory only if the scratch keeps less than the program needs, and the scratch keeps as much as programs needed
 /// most, until `grain_proved_scratch_free` is called.
 #[unsafe(no_mangle)]
 pub extern "C" fn grain_proved_verify_with(

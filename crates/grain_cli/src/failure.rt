@@ -58,7 +58,7 @@ pub enum Failure {
     /// Binary output would go to a terminal.
     #[error("standard output: a terminal shows no binary file (use -o FILE)")]
     Terminal,
-    /// A growth was refused.
+    /// An allocation failed.
     #[error("out of memory")]
     OutOfMemory,
 }

@@ -27,7 +27,7 @@ pub fn chunk_at(program: &Program, at: usize) -> Option<usize> {
 #[derive(Clone, Copy)]
 pub struct Spot {
     /// The index of the chunk.
-    pub place: Option<usize>,
+    pub chunk: Option<usize>,
     /// The address.
     pub address: Option<usize>,
     /// The constant that needs capabilities.
@@ -60,7 +60,7 @@ fn address_of(error: &VerifyError) -> Option<usize> {
 /// Where capabilities are missing before any chunk.
 fn spot_of_needing(needing: Option<Needing>) -> Spot {
     Spot {
-        place: None,
+        chunk: None,
         address: None,
         constant: match needing {
             Some(Needing::Constant(index)) => Some(index),
@@ -76,13 +76,13 @@ pub fn spot_of(program: &Program, refusal: &Refusal) -> Spot {
         return spot_of_needing(lacking(program));
     }
     let address = address_of(&refusal.error);
-    let place = match (refusal.chunk, address) {
-        (Some(place), _) => Some(place),
+    let chunk = match (refusal.chunk, address) {
+        (Some(chunk), _) => Some(chunk),
         (None, Some(at)) => chunk_at(program, at),
         (None, None) => None,
     };
     Spot {
-        place,
+        chunk,
         address,
         constant: None,
         is_of_functions: false,
@@ -92,23 +92,23 @@ pub fn spot_of(program: &Program, refusal: &Refusal) -> Spot {
 /// Appends the name of the chunk with this index.
 fn push_chunk(
     program: &Program,
-    place: Option<usize>,
+    chunk: Option<usize>,
     text: &mut String,
 ) -> Result<(), AllocError> {
-    match place {
-        Some(place) => push_name(name_of(program, place), text),
+    match chunk {
+        Some(chunk) => push_name(name_of(program, chunk), text),
         None => text.push_str(UNKNOWN),
     }
 }
 
-/// Appends a place: the function, the position if it is known, and the address.
+/// Appends an address, with its function, and its position if that is known.
 fn push_address(
     program: &Program,
-    place: Option<usize>,
+    chunk: Option<usize>,
     at: usize,
     text: &mut String,
 ) -> Result<(), AllocError> {
-    push_chunk(program, place, text)?;
+    push_chunk(program, chunk, text)?;
     let position = program.position(at);
     if !position.is_none() {
         text.push_str(" at ")?;
@@ -117,7 +117,7 @@ fn push_address(
     write!(text, ", address {at}")
 }
 
-/// Appends the place of a refusal in parentheses, if it has one.
+/// Appends where a refusal is, in parentheses, if it is somewhere.
 ///
 /// # Errors
 /// [`AllocError`] if memory was refused.
@@ -133,26 +133,26 @@ pub fn push_spot(program: &Program, spot: Spot, text: &mut String) -> Result<(),
         } => text.push_str(" (functions)"),
         Spot {
             address: Some(at),
-            place,
+            chunk,
             ..
         } => {
             text.push_str(" (")?;
-            push_address(program, place, at, text)?;
+            push_address(program, chunk, at, text)?;
             text.push(')')
         }
         Spot {
-            place: Some(place),
+            chunk: Some(chunk),
             ..
         } => {
             text.push_str(" (")?;
-            push_chunk(program, Some(place), text)?;
+            push_chunk(program, Some(chunk), text)?;
             text.push(')')
         }
         _ => Ok(()),
     }
 }
 
-/// An address as text: the function and the position, where these are known.
+/// An address as text: the function and the position, if these are known.
 pub fn write_place(alloc: Global, program: &Program, at: usize) -> Result<String, AllocError> {
     let mut text = String::new(alloc);
     push_chunk(program, chunk_at(program, at), &mut text)?;

@@ -145,11 +145,11 @@ fn write_details(json: &mut Writer, error: &VerifyError) -> Result<(), AllocErro
     }
 }
 
-/// Writes the place of a refusal: its chunk, function, address and position, each null if there is none.
+/// Writes where a refusal is: its chunk, function, address and position, each null if there is none.
 fn write_spot(json: &mut Writer, program: &Program, spot: Spot) -> Result<(), AllocError> {
-    write_option(json, "chunk", spot.place.map(|place| place as u64))?;
-    match spot.place {
-        Some(place) => write_words(json, "function", name_of(program, place))?,
+    write_option(json, "chunk", spot.chunk.map(|chunk| chunk as u64))?;
+    match spot.chunk {
+        Some(chunk) => write_words(json, "function", name_of(program, chunk))?,
         None => {
             json.key("function")?;
             json.null()?;

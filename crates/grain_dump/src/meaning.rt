@@ -10,7 +10,7 @@ use grain_print::{
 };
 use std::alloc::{AllocError, Global};
 
-/// What is written where there is nothing.
+/// What is written if there is nothing.
 const NONE: &str = "none";
 
 fn write_caps(out: &mut String, program: &Program) -> Result<(), AllocError> {

@@ -56,11 +56,11 @@ fn sections_of(
     Ok(sections)
 }
 
-/// The sections of the file of a program, with their pieces where these are wanted. It takes memory for the outline of the file and
+/// The sections of the file of a program, with their pieces if these are wanted. It takes memory for the outline of the file and
 /// a text of each section. The pieces are made as they are written.
 ///
 /// # Errors
-/// As [`write`](grain_file::write): `Unkept` where the program has no file.
+/// As [`write`](grain_file::write): `Unkept` if the program has no file.
 pub fn program_dump(
     alloc: Global,
     program: &Program,
@@ -79,7 +79,7 @@ pub fn program_dump(
 /// The sections of the file of a sidecar, each of one piece.
 ///
 /// # Errors
-/// Where a growth was refused.
+/// An allocation failed.
 pub fn sidecar_dump(
     alloc: Global,
     sidecar: &Sidecar,

@@ -36,7 +36,7 @@ pub struct Limits {
     pub size: usize,
     /// How deep values are nested at most: no more than [`MAX_DEPTH`]. One that holds no other counts 1.
     pub depth: u32,
-    /// How many cases a switch has at most. To read one takes time by its cases, and by the square of their number where the
+    /// How many cases a switch has at most. To read one takes time by its cases, and by the square of their number if the
     /// values were chosen so that their hashes are the same.
     pub cases: usize,
 }
@@ -55,7 +55,7 @@ impl Default for Limits {
 /// Why bytes are no file within the limits.
 #[derive(Clone, Copy, Debug, PartialEq, Eq, Error)]
 pub enum ReadError {
-    /// A growth was refused.
+    /// An allocation failed.
     #[error("out of memory")]
     OutOfMemory,
     /// The file has more bytes than the limit. Nothing of it was read.
@@ -212,7 +212,7 @@ fn read_body(cursor: &mut Cursor<'_>, limits: &Limits) -> Result<Program, Stop>
     ))
 }
 
-/// The positions, where they are known.
+/// The positions, if they are known.
 fn positions_of(positions: Option<Vec<Position>>) -> Positions
     ensures { option_map (λ list. map place_of list) (listed_positions result)
         ≡ option_map (λ list. map place_of list.items) positions }

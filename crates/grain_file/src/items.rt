@@ -25,7 +25,7 @@ pub(crate) trait Marks: Drop {
     /// Marks the part behind those that are marked, up to this place.
     ///
     /// # Errors
-    /// A growth was refused.
+    /// An allocation failed.
     fn mark(&mut self, part: Part, end: usize) -> Result<(), AllocError>
         requires reached { (from : ℕ) × Reach self.old from × (from ≤ end) }
         ensures reaches { OnOk result (Reach self.new end) };

@@ -121,7 +121,7 @@ fn read_tables(cursor: &mut Cursor<'_>) -> Result<Sidecar, Stop>
 /// The file of a sidecar (docs/FORMAT.md, "Sidecar files").
 ///
 /// # Errors
-/// Where a growth was refused.
+/// An allocation failed.
 pub fn write_sidecar(alloc: Global, sidecar: &Sidecar) -> Result<Vec<u8>, AllocError>
     ensures { IfOk result (λ v. IsSidecarFile v.items (sidecar_parts sidecar.now)) }
 {
@@ -133,7 +133,7 @@ pub fn write_sidecar(alloc: Global, sidecar: &Sidecar) -> Result<Vec<u8>, AllocE
 /// The parts of the file of a sidecar, in their order.
 ///
 /// # Errors
-/// Where a growth was refused.
+/// An allocation failed.
 pub fn outline_sidecar(alloc: Global, sidecar: &Sidecar) -> Result<Vec<Item>, AllocError>
     ensures { IfOk result (λ v. IsSidecarOutline v.items sidecar.now) }
 {

@@ -14,7 +14,7 @@ use std::alloc::Global;
 ///
 /// # Errors
 /// `Unkept` with the first thing that no file keeps, in the order of the file: a value of the host among the constants, a case
-/// whose key isn't its constant, and fragments of syntax. `OutOfMemory` where a growth was refused.
+/// whose key isn't its constant, and fragments of syntax. `OutOfMemory` if an allocation failed.
 pub fn write(alloc: Global, program: &Program) -> Result<Vec<u8>, WriteError>
     // What is written is a file of the program, for readers whose limits let values nest as deep as they do in it, and switches
     // have as many cases.

@@ -142,7 +142,7 @@ fn other_of(refusal: &Option<ExplainedRefusal>) -> &[Row]
 /// An explained chunk as rows.
 ///
 /// # Errors
-/// A growth was refused.
+/// An allocation failed.
 pub fn rows_of(alloc: Global, chunk: &ExplainedChunk) -> Result<ExplanationRows, AllocError>
     ensures { IfOk result (IsMadeOfRows chunk.now) }
 {

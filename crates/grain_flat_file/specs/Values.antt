@@ -98,7 +98,7 @@ assigned_texts a = operator_texts (token_parts a.op_assign) ++ operator_texts (t
 abbrev pub assigned_names : AssignOp → COpAssignment
 assigned_names a = record { op_assign_name = a.op_assign_name; op_name = a.op_name }
 
--- ---- where rows and bytes begin
+-- ---- if rows and bytes begin
 
 -- where the rows of each value begin, those of the first there
 abbrev pub value_begins : ℕ → List Form → List ℕ

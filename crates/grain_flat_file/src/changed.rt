@@ -76,7 +76,7 @@ fn spans_within(alloc: Global, limit: u64, program: &Program) -> Result<bool, Al
 /// [`Program::tighten_located`], whose visits the meter counts, and one [`write`].
 ///
 /// # Errors
-/// Tested in this order: `Read` as [`read`], and wherever a growth was refused; `TooMuchWork` where the chunks span more bytes of
+/// Tested in this order: `Read` as [`read`], and wherever an allocation failed; `TooMuchWork` if the chunks span more bytes of
 /// the code than the limit, each counted for itself; `Refused` as [`Program::tighten_located`].
 pub fn tighten(
     alloc: Global,

@@ -90,7 +90,7 @@ pub(crate) struct Copies {
     pub(crate) source: Vec<u8>,
 }
 
-/// The name of the source, which is empty where there is none.
+/// The name of the source, which is empty if there is none.
 fn source_of(program: &Program) -> &[u8]
     ensures { result.now ≡ unwrap_or program.now.source [] }
 {

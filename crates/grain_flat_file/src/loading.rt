@@ -13,7 +13,7 @@ use std::alloc::{AllocError, Global};
 /// Why a file isn't read.
 #[derive(Clone, Copy, Debug, PartialEq, Eq)]
 pub enum FileStop {
-    /// The bytes are no file within the limits, or a growth was refused.
+    /// The bytes are no file within the limits, or an allocation failed.
     Read(ReadError),
     /// A list of the program has more entries than a row can count.
     TooLong,

@@ -34,7 +34,7 @@ pub struct COpAssignment {
 pub struct CRange {
     /// The first integer.
     pub from: i64,
-    /// The last integer where the range is inclusive, else the first one past it.
+    /// The last integer if the range is inclusive, else the first one past it.
     pub to: i64,
     /// Whether the range has that last integer.
     pub is_inclusive: bool,
@@ -135,10 +135,10 @@ pub struct CReadError {
     pub cause: u32,
     /// The part that the byte is in, by a number of [`crate::parts`].
     pub part: u32,
-    /// The index of an item of a list, where the part is one.
+    /// The index of an item of a list, if the part is one.
     pub index: u64,
-    /// The place of the byte; where the file is too large, how many it has.
+    /// The place of the byte; if the file is too large, how many it has.
     pub at: u64,
-    /// How many bytes it may have, where it has more.
+    /// How many bytes it may have, if it has more.
     pub limit: u64,
 }

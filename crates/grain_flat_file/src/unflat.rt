@@ -5,7 +5,7 @@ use std::alloc::{AllocError, AllocFailed};
 /// Why a program has no flat form.
 #[derive(Clone, Copy, Debug, PartialEq, Eq)]
 pub enum Unflat {
-    /// A growth was refused.
+    /// An allocation failed.
     OutOfMemory,
     /// A list has 4294967296 entries or more, or a text or a blob as many bytes.
     TooLong,

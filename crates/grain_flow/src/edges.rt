@@ -163,7 +163,7 @@ impl Search<'_> {
 /// an instruction that isn't reached, or at which the only path to the flaw ends.
 ///
 /// # Errors
-/// [`AllocError`] where memory was refused.
+/// [`AllocError`] if memory was refused.
 pub fn edges_of(
     alloc: Global,
     program: &Program,

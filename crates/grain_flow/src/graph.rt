@@ -40,7 +40,7 @@ pub struct Node {
     pub whole: String,
     /// What is known of it.
     pub standing: Standing,
-    /// The operands and iterators there, at a conflict by both paths; empty where it isn't reached.
+    /// The operands and iterators there, at a conflict by both paths; empty if it isn't reached.
     pub counts: String,
     /// The bases of the armed handlers there, likewise.
     pub bases: String,
@@ -51,7 +51,7 @@ pub struct Node {
 pub struct Graph {
     /// What the chunk is called, where it is, and whether it passes.
     pub title: String,
-    /// What is wrong, in a sentence; empty where the chunk passes.
+    /// What is wrong, in a sentence; empty if the chunk passes.
     pub wrong: String,
     /// The rule that it breaks, in a sentence; likewise.
     pub rule: &'static str,
@@ -61,7 +61,7 @@ pub struct Graph {
     pub edges: Vec<Edge>,
 }
 
-/// The states at an instruction: two where two paths disagree.
+/// The states at an instruction: two if two paths disagree.
 #[derive(Clone, Copy)]
 struct States<'a> {
     here: &'a Row,
@@ -224,7 +224,7 @@ fn title_of(
     Ok(title)
 }
 
-/// What is wrong with a chunk, in a sentence; nothing where it passes.
+/// What is wrong with a chunk, in a sentence; nothing if it passes.
 fn wrong_with(alloc: Global, refusal: &Option<Refusal>) -> Result<String, AllocError> {
     let mut wrong = String::new(alloc);
     if let Some(refusal) = refusal {
@@ -233,7 +233,7 @@ fn wrong_with(alloc: Global, refusal: &Option<Refusal>) -> Result<String, AllocE
     Ok(wrong)
 }
 
-/// The rule that a chunk breaks; nothing where it passes.
+/// The rule that a chunk breaks; nothing if it passes.
 fn broken_rule(refusal: &Option<Refusal>) -> &'static str {
     match refusal {
         Some(refusal) => rule(&refusal.error),
@@ -242,11 +242,11 @@ fn broken_rule(refusal: &Option<Refusal>) -> &'static str {
 }
 
 impl Graph {
-    /// The graph of the explained chunk at a place of a program, whose listing this is; none where no chunk is explained there. It takes
+    /// The graph of the explained chunk at a place of a program, whose listing this is; none if no chunk is explained there. It takes
     /// time by the length of the chunk's text and of the paths to its flaw.
     ///
     /// # Errors
-    /// [`AllocError`] where memory was refused.
+    /// [`AllocError`] if memory was refused.
     pub fn of(
         alloc: Global,
         program: &Program,

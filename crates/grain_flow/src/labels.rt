@@ -21,7 +21,7 @@ pub fn columns(text: &str) -> usize {
 /// The text, cut off with an ellipsis where it takes more columns than these.
 ///
 /// # Errors
-/// [`AllocError`] where memory was refused.
+/// [`AllocError`] if memory was refused.
 pub fn shortened(alloc: Global, text: &str, most: usize) -> Result<String, AllocError> {
     if columns(text) <= most {
         return String::from_str(alloc, text);
@@ -83,7 +83,7 @@ pub struct Label {
 /// What an operation is called.
 ///
 /// # Errors
-/// [`AllocError`] where memory was refused.
+/// [`AllocError`] if memory was refused.
 pub fn label_of(alloc: Global, naming: Naming<'_>, op: &Op) -> Result<Label, AllocError> {
     let mut whole = String::new(alloc);
     naming.write_op(op, &mut whole)?;

@@ -69,7 +69,7 @@ fn spans_of(alloc: Global, edges: &[Edge]) -> Result<Vec<Span>, AllocError> {
     Ok(spans)
 }
 
-/// Puts a span into the first lane where it touches no other, and returns the lane.
+/// Puts a span into the first lane if it touches no other, and returns the lane.
 fn put(alloc: Global, taken: &mut Vec<Vec<Span>>, span: Span) -> Result<usize, AllocError> {
     let free = taken
         .iter()
@@ -87,7 +87,7 @@ impl Lanes {
     /// It takes time by the square of the jumps.
     ///
     /// # Errors
-    /// [`AllocError`] where memory was refused.
+    /// [`AllocError`] if memory was refused.
     pub fn of(alloc: Global, rows: usize, edges: &[Edge]) -> Result<Lanes, AllocError> {
         let mut spans = spans_of(alloc, edges)?;
         spans.sort()?;

@@ -38,11 +38,11 @@ ascend_from least (c ∷ cs) = nat_le least c.0 && ascend_from (c.0 + 1) cs
 abbrev pub are_there : ℕ → List CaseParts → Bool
 are_there count cs = list_all (λ c. nat_lt c.0 count) cs
 
--- the content of the constant of a case, where it is there
+-- the content of the constant of a case, if it is there
 abbrev pub case_content : List Form → CaseParts → Option Content
 case_content constants c = option_map bare (slice_get constants c.0)
 
--- the same content, where both are there
+-- the same content, if both are there
 abbrev pub are_same : Option Content → Option Content → Bool
 are_same None y = false
 are_same (Some x) None = false
@@ -71,7 +71,7 @@ Cases = HashMap Dynamic (ℕ × ℕ) (BuildHasherDefault FoldHasher)
 abbrev pub case_view : CaseField → CaseParts
 case_view c = (c.constant, c.target)
 
--- What was gathered of cases: each by the value of its constant. Nothing, where two of these are the same.
+-- What was gathered of cases: each by the value of its constant. Nothing, if two of these are the same.
 abbrev pub Gathered : List Dynamic → List CaseParts → Option Cases → Type 0
 Gathered constants cs None = are_new [] (map (case_content (forms constants)) cs) ≡ false
 Gathered constants cs (Some m) = (are_new [] (map (case_content (forms constants)) cs) ≡ true) × (list_all (is_keyed constants) m.entries ≡ true) × IsPermutation cs (map case_parts m.entries)
@@ -80,7 +80,7 @@ Gathered constants cs (Some m) = (are_new [] (map (case_content (forms constants
 abbrev pub same_keys : Dynamic → Dynamic → Bool
 same_keys v w = same (content v) (content w)
 
--- Nothing, where the key of a case isn't its constant; else the cases in the order of the map.
+-- Nothing, if the key of a case isn't its constant; else the cases in the order of the map.
 abbrev pub IsListed : List Dynamic → Cases → Option (Vec CaseField Global) → Type 0
 IsListed constants m None = list_all (is_keyed constants) m.entries ≡ false
 IsListed constants m (Some v) = (list_all (is_keyed constants) m.entries ≡ true) × (map case_view v.items ≡ map case_parts m.entries)
@@ -91,7 +91,7 @@ pub record Pass (constants : List Form) (cs : List CaseParts) : Type 0 where
   pub there : are_there (length constants) cs ≡ true
   pub new : are_new [] (map (case_content constants) cs) ≡ true
 
--- Nothing, where the key of a case isn't its constant; else the cases in the order of their constants, which pass each test.
+-- Nothing, if the key of a case isn't its constant; else the cases in the order of their constants, which pass each test.
 abbrev pub AreInOrder : List Dynamic → List Case → Option (Vec CaseField Global) → Type 0
 AreInOrder constants cs None = list_all (is_keyed constants) cs ≡ false
 AreInOrder constants cs (Some v) = (list_all (is_keyed constants) cs ≡ true) × (map case_view v.items ≡ ordered (map case_parts cs)) × Pass (forms constants) (map case_view v.items)

@@ -1,4 +1,4 @@
--- Where reading fails, what is wrong stands in the bytes.
+-- If reading fails, what is wrong stands in the bytes.
 use Rattle.std.proofs.Common.{◌≡◌, ℕ, zero, suc, Bool, cond, ltb, eqb, List, [], ◌∷◌, ◌++◌, length, take, drop, Option, Some, Result, Ok, Err, refl, sym, ap, subst, ◌∙◌, append_assoc, inl, inr, ◌⊎◌}
 use Rattle.std.specs.Str.{is_utf8}
 use Rattle.grain_format.specs.declared.error.FieldFault.{FieldFault}

@@ -195,7 +195,7 @@ IntegerFits z = zigzag z < 2 ^ 64
 abbrev pub CharacterFits : ℕ → Type 0
 CharacterFits n = IsBelow (2 ^ 32) n × (scalar n ≡ true)
 
--- where a value is spelled, if those in it are
+-- if a value is spelled, if those in it are
 abbrev pub FitsAround : (Form → Type 0) → Form → Type 0
 FitsAround Inner unit = Unit {0}
 FitsAround Inner (boolean b) = Unit {0}

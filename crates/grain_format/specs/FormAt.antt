@@ -33,7 +33,7 @@ counted_entries_at value bytes = number_at bytes >>= λ n. entries_at value n.0 
 abbrev pub pointer_at : (List ℕ → Result (Form × List ℕ) LocatedFault) → List ℕ → Result (Form × List ℕ) LocatedFault
 pointer_at value = seen_at (λ r. fn_ptr r.0 (forms_of r.1)) (both_at text_at (counted_at value))
 
--- behind a tag, where the values in it are read so
+-- behind a tag, if the values in it are read so
 unfoldable pub behind_tag : (List ℕ → Result (Form × List ℕ) LocatedFault) → ℕ → List ℕ → Result (Form × List ℕ) LocatedFault
 behind_tag value zero bytes = Ok (unit, bytes)
 behind_tag value (suc zero) bytes = Ok (boolean false, bytes)

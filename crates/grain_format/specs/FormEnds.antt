@@ -1,4 +1,4 @@
--- Where reading a value fails, what is wrong stands in the bytes.
+-- If reading a value fails, what is wrong stands in the bytes.
 use Rattle.std.proofs.Common.{◌≡◌, ℕ, zero, suc, ◌^◌, cond, List, [], ◌∷◌, ◌++◌, Option, Some, None, Result, Ok, Err, inl, inr}
 use Rattle.std.proofs.Math.Utf8.{scalar}
 use Rattle.grain_base.specs.Varint.{zigzag}

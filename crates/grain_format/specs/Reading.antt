@@ -46,7 +46,7 @@ pub record IsEnd (left bytes : List ℕ) : Type 0 where
   pub front : List ℕ
   pub is : bytes ≡ front ++ left
 
--- Where reading fails, what is wrong stands in the bytes.
+-- If reading fails, what is wrong stands in the bytes.
 abbrev pub Ends : {A : Type 0} → (List ℕ → Result (A × List ℕ) LocatedFault) → Type 0
 Ends {A} reading =
     (bytes : List ℕ) (fault : FieldFault) (left : List ℕ) → AreBytes bytes → reading bytes ≡ Err (fault, left) → IsEnd left bytes

@@ -95,7 +95,7 @@ abbrev pub most_cases : List SwitchParts → ℕ
 most_cases [] = 0
 most_cases (s ∷ ss) = max (length s.0.1) (most_cases ss)
 
--- it fits where a switch may have as many cases as it has
+-- it fits if a switch may have as many cases as it has
 abbrev pub FitsAlone : List Form → SwitchParts → Type 0
 FitsAlone constants s = (switch_format (length s.0.1) constants).Fits s
 

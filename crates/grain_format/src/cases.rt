@@ -70,7 +70,7 @@ fn are_there(cases: &[Case], constants: usize) -> bool
     true
 }
 
-/// The cases by the values of their constants, or nothing where two of these are equal.
+/// The cases by the values of their constants, or nothing if two of these are equal.
 fn gather(
     alloc: Global,
     cases: &[Case],
@@ -103,7 +103,7 @@ fn is_keyed(constants: &[Dynamic], key: &Dynamic, constant: u32) -> bool
     }
 }
 
-/// The cases in the order of the map, or nothing where the key of one isn't its constant.
+/// The cases in the order of the map, or nothing if the key of one isn't its constant.
 fn list(
     alloc: Global,
     cases: &HashMap<Dynamic, (u32, u32)>,
@@ -133,7 +133,7 @@ fn sort(cases: &mut Vec<Case>)
     cases.sort_unstable_by_key(|case| case.constant);
 }
 
-/// The cases in the order of their constants, or nothing where the key of one isn't its constant.
+/// The cases in the order of their constants, or nothing if the key of one isn't its constant.
 pub(crate) fn list_in_order(
     alloc: Global,
     cases: &HashMap<Dynamic, (u32, u32)>,

@@ -1,4 +1,4 @@
-//! A cursor over bytes. What reads a field moves it behind the field; where something is wrong, it stays at what is at fault.
+//! A cursor over bytes. What reads a field moves it behind the field; if something is wrong, it stays at what is at fault.
 ghost use Rattle.std.specs.Prelude.{◌≡◌, ◌<◌, ◌^◌, IfOk};
 ghost use Rattle.grain_format.specs.Reading.{Gives};
 ghost use Rattle.grain_format.specs.Numbers.{number_at, below_at};
@@ -36,7 +36,7 @@ impl<'a> Cursor<'a> {
     /// Reads a byte.
     ///
     /// # Errors
-    /// `Truncated` where no byte is left.
+    /// `Truncated` if no byte is left.
     #[tactic(auto, unfolding(crate::specs::Texts::byte_at))]
     pub fn byte(&mut self) -> Result<u8, Stop>
         ensures { Gives (λ b. b) result self.new.left.now (byte_at self.old.left.now) }
@@ -53,7 +53,7 @@ impl<'a> Cursor<'a> {
     /// Reads a byte that has to be there.
     ///
     /// # Errors
-    /// The fault where another byte is there, and `Truncated` where none is left.
+    /// The fault if another byte is there, and `Truncated` if none is left.
     #[tactic(auto, unfolding(crate::specs::Texts::expected_at))]
     pub fn expect(&mut self, byte: u8, fault: FieldFault) -> Result<(), Stop>
         ensures { Gives (λ u. u) result self.new.left.now
@@ -72,7 +72,7 @@ impl<'a> Cursor<'a> {
     /// Reads a byte below a limit.
     ///
     /// # Errors
-    /// `UnknownTag` where the byte isn't below it, and `Truncated` where none is left.
+    /// `UnknownTag` if the byte isn't below it, and `Truncated` if none is left.
     #[tactic(auto, unfolding(crate::specs::Texts::tag_at))]
     pub fn tag(&mut self, limit: u8) -> Result<u8, Stop>
         ensures given { Gives (λ b. b) result self.new.left.now (tag_at limit self.old.left.now) }
@@ -91,7 +91,7 @@ impl<'a> Cursor<'a> {
     /// Reads a number.
     ///
     /// # Errors
-    /// `Truncated` where the bytes end within it, `TooWide` where it hasn't 64 bits, and `NotShortest` where it has a shorter
+    /// `Truncated` where the bytes end within it, `TooWide` if it hasn't 64 bits, and `NotShortest` if it has a shorter
     /// spelling.
     #[tactic(auto, unfolding(crate::specs::Numbers::number_at))]
     pub fn number(&mut self) -> Result<u64, Stop>
@@ -109,7 +109,7 @@ impl<'a> Cursor<'a> {
     /// Reads a number of 32 bits.
     ///
     /// # Errors
-    /// As [`number`](Cursor::number), and `TooWide` where it hasn't 32 bits.
+    /// As [`number`](Cursor::number), and `TooWide` if it hasn't 32 bits.
     #[tactic(auto, unfolding(crate::specs::Numbers::below_at))]
     pub fn number_32(&mut self) -> Result<u32, Stop>
         ensures { Gives (λ n. n) result self.new.left.now (below_at (2 ^ 32) self.old.left.now) }
@@ -128,7 +128,7 @@ impl<'a> Cursor<'a> {
     /// Reads a number of 16 bits.
     ///
     /// # Errors
-    /// As [`number`](Cursor::number), and `TooWide` where it hasn't 16 bits.
+    /// As [`number`](Cursor::number), and `TooWide` if it hasn't 16 bits.
     #[tactic(auto, unfolding(crate::specs::Numbers::below_at))]
     pub fn number_16(&mut self) -> Result<u16, Stop>
         ensures { Gives (λ n. n) result self.new.left.now (below_at (2 ^ 16) self.old.left.now) }
@@ -147,7 +147,7 @@ impl<'a> Cursor<'a> {
     /// Reads how many bytes follow, and these, which stay where they lie.
     ///
     /// # Errors
-    /// As [`number`](Cursor::number), and `Truncated` where fewer bytes are left.
+    /// As [`number`](Cursor::number), and `Truncated` if fewer bytes are left.
     #[tactic(auto, unfolding(crate::specs::Texts::bytes_at))]
     pub fn bytes(&mut self) -> Result<&'a [u8], Stop>
         ensures { Gives (λ s. s.now) result self.new.left.now (bytes_at self.old.left.now) }
@@ -164,7 +164,7 @@ impl<'a> Cursor<'a> {
     /// Reads how many bytes a text has, and these, which stay where they lie. Time is linear in their number.
     ///
     /// # Errors
-    /// As [`bytes`](Cursor::bytes), and `NotText` where they are not UTF-8.
+    /// As [`bytes`](Cursor::bytes), and `NotText` if they are not UTF-8.
     #[tactic(auto, unfolding(crate::specs::Texts::text_at))]
     pub fn text(&mut self) -> Result<&'a str, Stop>
         ensures { Gives (λ s. s.now) result self.new.left.now (text_at self.old.left.now) }

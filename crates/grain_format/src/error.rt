@@ -84,7 +84,7 @@ impl error::Error for FieldFault {}
 /// Why reading stopped.
 #[derive(Clone, Copy, Debug, PartialEq, Eq)]
 pub enum Stop {
-    /// A growth was refused.
+    /// An allocation failed.
     OutOfMemory,
     /// The bytes at the cursor are at fault.
     FieldFault(FieldFault),
@@ -126,7 +126,7 @@ pub enum WriteError {
     /// It has something that no file keeps.
     #[error("no file keeps {0}")]
     Unkept(Unkept),
-    /// A growth was refused.
+    /// An allocation failed.
     #[error("out of memory")]
     OutOfMemory,
 }

@@ -26,14 +26,14 @@ pub trait FileField: Drop {
     /// Reads a value at the cursor, and moves the cursor behind it. Time and memory are linear in the bytes that it reads.
     ///
     /// # Errors
-    /// A `FieldFault` where the bytes at the cursor are no spelling of a value. `OutOfMemory` where a growth was refused.
+    /// A `FieldFault` where the bytes at the cursor are no spelling of a value. `OutOfMemory` if an allocation failed.
     fn read(cursor: &mut Cursor<'_>) -> Result<Self, Stop>
         ensures { Gives view result cursor.new.left.now (format.reading cursor.old.left.now) };
 
     /// Appends the spelling of the value. Time and memory are linear in the bytes that it appends.
     ///
     /// # Errors
-    /// `Unkept` with the first reason for which the value has no spelling. `OutOfMemory` where a growth was refused.
+    /// `Unkept` with the first reason for which the value has no spelling. `OutOfMemory` if an allocation failed.
     fn write(&self, out: &mut Vec<u8>) -> Result<(), WriteError>
         ensures spelled { OnOk result
             (out.new.items ≡ out.old.items ++ format.spelling (view self.now)) }

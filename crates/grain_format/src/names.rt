@@ -15,8 +15,8 @@ use grain_pools::{Strings, StringsError};
 /// bytes that are left.
 ///
 /// # Errors
-/// A `FieldFault` where the bytes at the cursor are no names: `Truncated`, `TooWide`, `NotShortest`, `NotText`, or `NamesTooLong` where
-/// they have more than 4294967295 bytes. `OutOfMemory` where a growth was refused.
+/// A `FieldFault` if the bytes at the cursor are no names: `Truncated`, `TooWide`, `NotShortest`, `NotText`, or `NamesTooLong` if
+/// they have more than 4294967295 bytes. `OutOfMemory` if an allocation failed.
 pub fn read_names(cursor: &mut Cursor<'_>) -> Result<Strings, Stop>
     ensures { Gives (λ names. names) result cursor.new.left.now
         (names_format.reading cursor.old.left.now) }

@@ -58,7 +58,7 @@ fn put_groups(out: &mut Vec<u8>, n: u64, more: u8) -> Result<(), AllocError>
 /// Appends the shortest spelling of a number, of ten bytes at most.
 ///
 /// # Errors
-/// Where a growth was refused.
+/// An allocation failed.
 #[tactic(auto, unfolding(crate::specs::Numbers::number))]
 pub fn put_number(out: &mut Vec<u8>, n: u64) -> Result<(), AllocError>
     ensures { OnOk result (out.new.items ≡ out.old.items ++ number n) }
@@ -70,7 +70,7 @@ pub fn put_number(out: &mut Vec<u8>, n: u64) -> Result<(), AllocError>
 /// Appends how many bytes there are, and these. Time and memory are linear in their number.
 ///
 /// # Errors
-/// Where a growth was refused.
+/// An allocation failed.
 #[tactic(auto, unfolding(crate::specs::Texts::counted_bytes))]
 pub fn put_bytes(out: &mut Vec<u8>, bytes: &[u8]) -> Result<(), AllocError>
     ensures spelled { OnOk result (out.new.items ≡ out.old.items ++ counted_bytes bytes.now) }

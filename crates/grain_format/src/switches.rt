@@ -87,12 +87,12 @@ fn read_switch(cursor: &mut Cursor<'_>, constants: &[Dynamic], most: usize) -> R
 
 /// Reads how many switches there are, and each. A switch has at most `most` cases, each with its constant among these.
 ///
-/// Time and memory are linear in the bytes that it reads and in the constants of the cases, of which it makes copies. Where the
+/// Time and memory are linear in the bytes that it reads and in the constants of the cases, of which it makes copies. If the
 /// values were chosen so that their hashes are the same, time grows with the square of the number of cases.
 ///
 /// # Errors
-/// A `FieldFault` where the bytes at the cursor are no such switches: `Truncated`, `TooWide`, `NotShortest`, `UnknownTag`, `CaseOrder`,
-/// `NoConstant`, `TooManyCases` or `SameCase`. `OutOfMemory` where a growth was refused.
+/// A `FieldFault` if the bytes at the cursor are no such switches: `Truncated`, `TooWide`, `NotShortest`, `UnknownTag`, `CaseOrder`,
+/// `NoConstant`, `TooManyCases` or `SameCase`. `OutOfMemory` if an allocation failed.
 pub fn read_switches(
     cursor: &mut Cursor<'_>,
     constants: &[Dynamic],
@@ -130,7 +130,7 @@ fn cases_in_order(
 /// linear in the bytes, with 8 bytes for each case.
 ///
 /// # Errors
-/// `Unkept` where the key of a case isn't its constant. `OutOfMemory` where a growth was refused.
+/// `Unkept` where the key of a case isn't its constant. `OutOfMemory` if an allocation failed.
 pub fn put_switch(
     alloc: Global,
     out: &mut Vec<u8>,

@@ -133,8 +133,8 @@ fn read_pointer(cursor: &mut Cursor<'_>, depth: u32) -> Result<FnPtr, Stop>
 /// with the depth. For a count nothing is reserved beyond the number of bytes that are left.
 ///
 /// # Errors
-/// A `FieldFault` where the bytes at the cursor are no such values: `Truncated`, `TooWide`, `NotShortest`, `NotText`, `NotCharacter`,
-/// `UnknownTag`, `KeyOrder` or `TooDeep`. `OutOfMemory` where a growth was refused.
+/// A `FieldFault` if the bytes at the cursor are no such values: `Truncated`, `TooWide`, `NotShortest`, `NotText`, `NotCharacter`,
+/// `UnknownTag`, `KeyOrder` or `TooDeep`. `OutOfMemory` if an allocation failed.
 #[cycle(value)]
 pub fn read_values(cursor: &mut Cursor<'_>, depth: u32) -> Result<Vec<Dynamic>, Stop>
     ensures { Gives (λ v. forms v.items) result cursor.new.left.now
@@ -186,7 +186,7 @@ fn comes_after(entries: &BTreeMap<String, Dynamic>, key: &str) -> bool
 /// Appends a value. Time and memory are linear in the bytes that it appends. The call stack grows with the depth of the value.
 ///
 /// # Errors
-/// `Unkept` where a value of the host is in it. `OutOfMemory` where a growth was refused.
+/// `Unkept` where a value of the host is in it. `OutOfMemory` if an allocation failed.
 #[cycle(put_value)]
 pub fn put_value(out: &mut Vec<u8>, value: &Dynamic) -> Result<(), WriteError>
     ensures spelled { OnOk result (out.new.items ≡ out.old.items ++ spelled (value_form value.now)) }

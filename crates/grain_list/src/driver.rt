@@ -40,10 +40,10 @@ fn json_bytes(alloc: Global, listing: &Listing) -> Result<Vec<u8>, Failure> {
     Ok(line)
 }
 
-/// A listing as it is written: whole, so that none is written in part where memory is refused.
+/// A listing as it is written: whole, so that none is written in part if memory is refused.
 ///
 /// # Errors
-/// [`Failure::Memory`] where memory was refused.
+/// [`Failure::Memory`] if memory was refused.
 fn listing_bytes(alloc: Global, form: Form, listing: &Listing) -> Result<Vec<u8>, Failure> {
     match form {
         Form::Text(paint) => Ok(text_bytes(alloc, paint, listing)?),
@@ -54,7 +54,7 @@ fn listing_bytes(alloc: Global, form: Form, listing: &Listing) -> Result<Vec<u8>
 /// Reads the next line, and says whether there is one.
 ///
 /// # Errors
-/// [`Failure::Read`], or [`Failure::Memory`] where memory for the line was refused.
+/// [`Failure::Read`], or [`Failure::Memory`] if memory for the line was refused.
 fn read_line<R: BufRead>(reader: &mut R, line: &mut Vec<u8>) -> Result<bool, Failure> {
     line.clear();
     let count = reader.read_until(b'\n', line).map_err(Failure::of_read)?;
@@ -64,7 +64,7 @@ fn read_line<R: BufRead>(reader: &mut R, line: &mut Vec<u8>) -> Result<bool, Fai
 /// Writes bytes, so that they are there at once.
 ///
 /// # Errors
-/// [`Failure::Write`], or [`Failure::Memory`] where memory for the bytes was refused.
+/// [`Failure::Write`], or [`Failure::Memory`] if memory for the bytes was refused.
 fn write_out<W: Write>(bytes: &[u8], writer: &mut W) -> Result<(), Failure> {
     writer.write_all(bytes).map_err(Failure::of_write)?;
     writer.flush().map_err(Failure::of_write)
@@ -73,7 +73,7 @@ fn write_out<W: Write>(bytes: &[u8], writer: &mut W) -> Result<(), Failure> {
 /// Writes the listing of a case, and says whether the case is bad.
 ///
 /// # Errors
-/// [`Failure::Write`], or [`Failure::Memory`] where memory was refused.
+/// [`Failure::Write`], or [`Failure::Memory`] if memory was refused.
 fn answer<W: Write>(
     alloc: Global,
     form: Form,

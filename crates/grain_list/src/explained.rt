@@ -15,7 +15,7 @@ use std::alloc::{AllocError, Global};
 /// The explanation of the program that a case asks of; none of other cases.
 ///
 /// # Errors
-/// [`AllocError`] where memory was refused.
+/// [`AllocError`] if memory was refused.
 pub fn explained_of(alloc: Global, case: &Option<LineCase>) -> Result<Option<Explained>, AllocError>
     ensures explained { IfOk result (λ found. IfSome found (Explains (option_map as_asked case.now))) }
     ensures programs { IfOk result
@@ -33,7 +33,7 @@ pub fn explained_of(alloc: Global, case: &Option<LineCase>) -> Result<Option<Exp
 /// Writes the verdict of an explanation behind the text.
 ///
 /// # Errors
-/// [`AllocError`] where memory was refused.
+/// [`AllocError`] if memory was refused.
 pub fn write_explained(text: &mut String, explained: &Explained) -> Result<(), AllocError>
     ensures { (question : Option Asked) → Explains question explained.now → OnOk result
         (Adds (IsVerdictOn question) (string_bytes text.old) (string_bytes text.new)) }

@@ -50,7 +50,7 @@ fn printable(alloc: Global, line: &[u8]) -> Result<String, AllocError> {
 /// What is shown of a case with this explanation.
 ///
 /// # Errors
-/// [`AllocError`] where memory was refused.
+/// [`AllocError`] if memory was refused.
 fn body_of(
     alloc: Global,
     line: &[u8],
@@ -78,7 +78,7 @@ impl Listing {
     /// The listing of a line that is neither empty nor a comment.
     ///
     /// # Errors
-    /// [`AllocError`] where memory was refused.
+    /// [`AllocError`] if memory was refused.
     pub fn of(alloc: Global, line: &[u8]) -> Result<Listing, AllocError>
         ensures verdict { IfOk result (λ l. Verdict line.now (string_bytes l.verdict)) }
         ensures shown { IfOk result (λ l. IsShown (asked line.now) l.body) }

@@ -34,7 +34,7 @@ fn form_of(rt: &HostRuntime, request: Request) -> Form {
 /// The program's name and its arguments.
 ///
 /// # Errors
-/// [`Failure::Arguments`] where one isn't UTF-8, [`Failure::Memory`] where memory was refused.
+/// [`Failure::Arguments`] if one isn't UTF-8, [`Failure::Memory`] if memory was refused.
 fn words(rt: &HostRuntime) -> Result<Vec<String>, Failure> {
     let words = env::args(rt).map_err(Failure::of_arguments)?;
     Ok(words.collect(rt.alloc())?)
@@ -55,7 +55,7 @@ fn list(rt: &HostRuntime, form: Form) -> Result<u8, Failure> {
 /// Prints help, the version, or what is wrong with the arguments, and returns the status of the process.
 ///
 /// # Errors
-/// [`Failure::Memory`] where memory was refused, [`Failure::Write`] where help or the version could not be written.
+/// [`Failure::Memory`] if memory was refused, [`Failure::Write`] if help or the version could not be written.
 fn print(rt: &HostRuntime, said: &clap::Error) -> Result<u8, Failure> {
     if said.kind() == ErrorKind::OutOfMemory {
         return Err(Failure::Memory(AllocError));
@@ -87,7 +87,7 @@ fn main(rt: HostRuntime) -> ExitCode {
         Ok(status) => status,
         Err(failure) => {
             if !failure.is_left_alone() {
-                // Where standard error can't be written either, the status alone says it.
+                // If standard error can't be written either, the status alone says it.
                 let _said = eprintln!(rt; "error: {failure}");
             }
             failure.status()

@@ -7,7 +7,7 @@ use std::alloc::AllocError;
 /// Appends a listing to the text.
 ///
 /// # Errors
-/// [`AllocError`] where memory was refused.
+/// [`AllocError`] if memory was refused.
 pub fn write_text(paint: Paint, listing: &Listing, text: &mut String) -> Result<(), AllocError> {
     let style = Style {
         paint,

@@ -23,7 +23,7 @@ pub struct CodeListing {
 /// The instructions of code with their addresses, in order, up to the first thing that is none.
 ///
 /// # Errors
-/// [`AllocError`] where memory was refused.
+/// [`AllocError`] if memory was refused.
 fn instructions_of(alloc: Global, code: &[u8]) -> Result<Vec<(usize, Op)>, AllocError>
     ensures { IfOk result (λ v. IsDisassembly 0 code.now v.items) }
 {
@@ -34,7 +34,7 @@ impl CodeListing {
     /// Code with its instructions.
     ///
     /// # Errors
-    /// [`AllocError`] where memory was refused.
+    /// [`AllocError`] if memory was refused.
     pub fn of(alloc: Global, bytes: Vec<u8>) -> Result<CodeListing, AllocError>
         ensures { IfOk result (IsListedCode bytes.items) }
     {
@@ -82,7 +82,7 @@ impl CodeListing {
     }
 }
 
-/// What an operation does where there are no pools.
+/// What an operation does if there are no pools.
 pub fn effect_of(op: &Op) -> Effect
     ensures { flow_in result ≡ flow_of op.now }
 {

@@ -1,4 +1,4 @@
-//! The handlers that are armed where a run reaches an instruction.
+//! The handlers that are armed when a run reaches an instruction.
 
 use grain_explain::{ExplainedChunk, LinkedBase};
 use std::alloc::{AllocError, Global};
@@ -32,7 +32,7 @@ fn depth_in(depths: &[usize], list: u32) -> usize {
 /// How many bases are in the list of each.
 ///
 /// # Errors
-/// [`AllocError`] where memory was refused.
+/// [`AllocError`] if memory was refused.
 fn depths_of(alloc: Global, bases: &[LinkedBase]) -> Result<Vec<usize>, AllocError> {
     let mut depths = Vec::new(alloc);
     for base in bases {
@@ -44,7 +44,7 @@ fn depths_of(alloc: Global, bases: &[LinkedBase]) -> Result<Vec<usize>, AllocErr
 /// The same of each chunk.
 ///
 /// # Errors
-/// [`AllocError`] where memory was refused.
+/// [`AllocError`] if memory was refused.
 pub fn all_depths(alloc: Global, chunks: &[ExplainedChunk]) -> Result<Vec<Vec<usize>>, AllocError> {
     let mut all = Vec::new(alloc);
     for chunk in chunks {

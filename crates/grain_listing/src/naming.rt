@@ -10,7 +10,7 @@ use std::alloc::AllocError;
 /// What instructions and chunks are called.
 #[derive(Clone, Copy)]
 pub enum Naming<'a> {
-    /// By their indices, where nothing is known of what these lead to.
+    /// By their indices, if nothing is known of what these lead to.
     Indices,
     /// By the names and values of this program.
     Program(&'a Program),
@@ -33,7 +33,7 @@ pub fn name_of(program: &Program, place: usize) -> &str {
     }
 }
 
-/// Appends the text of an operation, or its debug text where an index finds nothing.
+/// Appends the text of an operation, or its debug text if an index finds nothing.
 fn write_named(program: &Program, op: &Op, text: &mut String) -> Result<(), AllocError> {
     if is_cut(program, op) {
         return write_cut(program, op, text);
@@ -49,7 +49,7 @@ impl<'a> Naming<'a> {
     /// Appends the text of an operation. Names, texts and values that are long are cut, so that it takes constant time.
     ///
     /// # Errors
-    /// [`AllocError`] where memory was refused.
+    /// [`AllocError`] if memory was refused.
     pub fn write_op(self, op: &Op, text: &mut String) -> Result<(), AllocError> {
         match self {
             Naming::Indices => write!(text, "{op:?}"),
@@ -57,7 +57,7 @@ impl<'a> Naming<'a> {
         }
     }
 
-    /// What the chunk at a place is called, where chunks have names.
+    /// What the chunk at a place is called, if chunks have names.
     pub fn chunk_name(self, place: usize) -> Option<&'a str> {
         match self {
             Naming::Indices => None,
@@ -65,7 +65,7 @@ impl<'a> Naming<'a> {
         }
     }
 
-    /// The position of the instruction at an address, where it is known.
+    /// The position of the instruction at an address, if it is known.
     pub fn position(self, at: usize) -> Option<Position> {
         match self {
             Naming::Indices => None,

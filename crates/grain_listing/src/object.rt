@@ -28,7 +28,7 @@ fn write_number(name: &str, number: u64, json: &mut Writer) -> Result<(), AllocE
     json.u64(number)
 }
 
-/// Writes a member that is a number, or null where there is none.
+/// Writes a member that is a number, or null if there is none.
 fn write_option(name: &str, number: Option<u32>, json: &mut Writer) -> Result<(), AllocError> {
     match number {
         Some(number) => write_number(name, u64::from(number), json),
@@ -36,7 +36,7 @@ fn write_option(name: &str, number: Option<u32>, json: &mut Writer) -> Result<()
     }
 }
 
-/// Writes a member that is a size, or null where there is none.
+/// Writes a member that is a size, or null if there is none.
 fn write_size(name: &str, size: Option<usize>, json: &mut Writer) -> Result<(), AllocError> {
     match size {
         Some(size) => write_number(name, size as u64, json),
@@ -168,7 +168,7 @@ fn write_known_position(position: Position, json: &mut Writer) -> Result<(), All
     json.end_object()
 }
 
-/// Writes the position of an instruction, or null where it isn't known; by indices there are no positions, and no member.
+/// Writes the position of an instruction, or null if it isn't known; by indices there are no positions, and no member.
 fn write_position(naming: Naming<'_>, at: usize, json: &mut Writer) -> Result<(), AllocError> {
     match (naming, naming.position(at)) {
         (Naming::Indices, _) => Ok(()),
@@ -284,7 +284,7 @@ fn write_chunk_items<W: Write>(
     Ok(())
 }
 
-/// Writes what a chunk is called, where chunks have names.
+/// Writes what a chunk is called, if chunks have names.
 fn write_name(naming: Naming<'_>, place: usize, json: &mut Writer) -> Result<(), AllocError> {
     match naming.chunk_name(place) {
         Some(name) => write_words("name", name, json),

@@ -26,7 +26,7 @@ impl ProgramListing {
     /// Code with chunks and their explanation. It takes time by the length of the code and of the explanation.
     ///
     /// # Errors
-    /// [`AllocError`] where memory was refused.
+    /// [`AllocError`] if memory was refused.
     pub fn new(
         alloc: Global,
         bytes: Vec<u8>,
@@ -51,7 +51,7 @@ impl ProgramListing {
     /// [`explain`], and a copy of the code.
     ///
     /// # Errors
-    /// [`AllocError`] where memory was refused.
+    /// [`AllocError`] if memory was refused.
     pub fn of(alloc: Global, program: &Program) -> Result<ProgramListing, AllocError> {
         let chunks = program.chunks()?;
         let pools = program.pools();

@@ -88,7 +88,7 @@ fn write_depth(at: u32, needed: usize, declared: u16, text: &mut String) -> Resu
     write!(text, " at {at}, and declares {declared}.")
 }
 
-/// Writes what is wrong at the end of a path, where there is no other path.
+/// Writes what is wrong at the end of a path, if there is no other path.
 fn write_wrong_there(error: &VerifyError, here: &Row, text: &mut String) -> Result<(), AllocError> {
     let at = here.at;
     match *error {
@@ -168,11 +168,11 @@ fn write_wrong_frame(error: &VerifyError, text: &mut String) -> Result<(), Alloc
     }
 }
 
-/// Writes what is wrong, in a sentence. The paths are those to the flaw, the last state first; there are none where the code or
+/// Writes what is wrong, in a sentence. The paths are those to the flaw, the last state first; there are none if the code or
 /// the chunk itself is refused.
 ///
 /// # Errors
-/// [`AllocError`] where memory was refused.
+/// [`AllocError`] if memory was refused.
 pub fn write_wrong(
     error: &VerifyError,
     path: &[Row],

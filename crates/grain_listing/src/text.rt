@@ -56,10 +56,10 @@ fn write_place(code: &CodeListing, at: usize, text: &mut String) -> Result<(), A
     text.push_str("  ")
 }
 
-/// Appends the bases of armed handlers, that of the last first, and at most four; `-` where there are none.
+/// Appends the bases of armed handlers, that of the last first, and at most four; `-` if there are none.
 ///
 /// # Errors
-/// [`AllocError`] where memory was refused.
+/// [`AllocError`] if memory was refused.
 pub fn write_bases(handlers: Handlers<'_>, list: u32, text: &mut String) -> Result<(), AllocError> {
     if list == 0 {
         return text.push_str("-");
@@ -109,7 +109,7 @@ fn write_target(op: &Op, text: &mut String) -> Result<(), AllocError> {
     Ok(())
 }
 
-/// Writes the operation at an address, with an arrow to its target, and its position, where that is known.
+/// Writes the operation at an address, with an arrow to its target, and its position, if that is known.
 fn write_op(naming: Naming<'_>, at: usize, op: &Op, text: &mut String) -> Result<(), AllocError> {
     naming.write_op(op, text)?;
     write_target(op, text)?;
@@ -130,7 +130,7 @@ pub fn row_at(chunk: &ExplainedChunk, at: usize) -> Option<(&Row, Option<u32>)> 
     Some((row, chunk.origins.get(place).copied().flatten()))
 }
 
-/// The address at which the path to a flaw ends; none where no path leads to it.
+/// The address at which the path to a flaw ends; none if no path leads to it.
 fn flaw_of(chunk: &ExplainedChunk) -> Option<usize> {
     let refusal = chunk.refusal.as_ref()?;
     Some(refusal.way.first()?.at as usize)
@@ -305,11 +305,11 @@ fn write_head(
     text.push_str("\n")
 }
 
-/// Writes the explained chunk at a place: its instructions with the states there, and why it is refused, if it is. Where no chunk is
+/// Writes the explained chunk at a place: its instructions with the states there, and why it is refused, if it is. If no chunk is
 /// explained there, nothing is written.
 ///
 /// # Errors
-/// [`AllocError`] where memory was refused.
+/// [`AllocError`] if memory was refused.
 pub fn write_chunk(
     style: Style<'_>,
     program: &ProgramListing,
@@ -338,7 +338,7 @@ pub fn write_chunk(
 /// Writes code without chunks, after an empty line; of no code nothing.
 ///
 /// # Errors
-/// [`AllocError`] where memory was refused.
+/// [`AllocError`] if memory was refused.
 pub fn write_code(
     style: Style<'_>,
     code: &CodeListing,
@@ -375,7 +375,7 @@ pub fn count_parts(program: &ProgramListing) -> usize {
 /// is the code and the refusal. All parts together are the listing, so it need not be in memory at once.
 ///
 /// # Errors
-/// [`AllocError`] where memory was refused.
+/// [`AllocError`] if memory was refused.
 pub fn write_part(
     style: Style<'_>,
     program: &ProgramListing,

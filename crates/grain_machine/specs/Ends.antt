@@ -29,7 +29,7 @@ pub record WantsRoom (code : Code) (address : ℕ) : Type 0 where
   pub grows : (flow_of op ≡ flows.BeginsIterator) ⊎ ((target : ℕ) × (flow_of op ≡ flows.PushesHandler target))
 
 -- An operation may end a frame so in this state: `Return` alone returns, no quiet operation faults, all handlers have caught
--- where a fault finds none, and memory is wanted for iterators and handlers alone.
+-- if a fault finds none, and memory is wanted for iterators and handlers alone.
 abbrev pub MayEnd : {V I F : Type 0} → Code → ValueMachine V I → Outcome V F → Type 0
 MayEnd code m (outcomes.Returned value) = Returns code m value
 MayEnd code m (outcomes.Faulted fault) = Sounds code m.address × (innermost m.handlers ≡ None)
@@ -56,8 +56,8 @@ IsFaultOf frames outcomes.OutOfFuel = ⊥
 IsFaultOf frames outcomes.OutOfMemory = ⊥
 IsFaultOf frames outcomes.Unanswered = ⊥
 
--- A turn may end a run so: `Return` alone returns, where no frame waits; no quiet operation faults, and all handlers of all
--- frames have caught where a fault finds none; and memory is wanted for iterators and handlers alone.
+-- A turn may end a run so: `Return` alone returns, if no frame waits; no quiet operation faults, and all handlers of all
+-- frames have caught if a fault finds none; and memory is wanted for iterators and handlers alone.
 abbrev pub StackEnds : {V I F : Type 0} → Program → CallStack V I → Outcome V F → Type 0
 StackEnds p s (outcomes.Returned value) = Returns (program_code p) s.top.machine value × (s.callers ≡ [])
 StackEnds p s (outcomes.Faulted fault) = Sounds (program_code p) s.top.machine.address × (catcher (s.top ∷ s.callers) ≡ None)

@@ -35,7 +35,7 @@ pub(crate) fn decode_each(alloc: Global, program: &Program) -> Result<Vec<Decode
     Ok(all)
 }
 
-/// What stands at an address of the code. Where nothing does it is any operation.
+/// What stands at an address of the code. If nothing does it is any operation.
 fn decoded_at(program: &Program, at: usize) -> Decoded
     ensures { IsEntryAt program.now at result }
 {

@@ -75,7 +75,7 @@ impl<V, I> Model for Frame<V, I> {
 }
 
 impl<V: Drop, I: Drop> Frame<V, I> {
-    /// A run begins at the entry, with room for this number of operands, in the memory of a frame that ended where there is one.
+    /// A run begins at the entry, with room for this number of operands, in the memory of a frame that ended if there is one.
     pub(crate) fn new(
         alloc: Global,
         entry: u32,
@@ -178,7 +178,7 @@ impl<V: Drop, I: Drop> Frame<V, I> {
         let _ = self.pop();
     }
 
-    /// Has the host do an operation that takes the topmost operands and gives a value, where it does it at once. `false` where it
+    /// Has the host do an operation that takes the topmost operands and gives a value, if it does it at once. `false` if it
     /// doesn't.
     #[inline(always)]
     pub(crate) fn quick_give<H: Host<Value = V>>(
@@ -205,7 +205,7 @@ impl<V: Drop, I: Drop> Frame<V, I> {
         }
     }
 
-    /// Puts a value in the place of the topmost operands. It is quick where these are two at most.
+    /// Puts a value in the place of the topmost operands. It is quick if these are two at most.
     #[inline(always)]
     pub(crate) fn replace_few<H: Host<Value = V>>(&mut self, host: &H, takes: usize, value: V)
         requires there { takes ≤ length self.old.machine.operands }
@@ -239,7 +239,7 @@ impl<V: Drop, I: Drop> Frame<V, I> {
         self.replace(takes, value);
     }
 
-    /// Has the host do an operation that takes one operand or none and gives no value, where it does it at once. `false` where it
+    /// Has the host do an operation that takes one operand or none and gives no value, if it does it at once. `false` if it
     /// doesn't.
     #[inline(always)]
     pub(crate) fn quick_take<H: Host<Value = V>>(
@@ -399,7 +399,7 @@ impl<V: Drop, I: Drop> Frame<V, I> {
         host.advance(request, &mut self.iterators[last], counter)
     }
 
-    /// The next item of the innermost iterator, where the host has it at once.
+    /// The next item of the innermost iterator, if the host has it at once.
     #[inline(always)]
     pub(crate) fn quick_advance<H: Host<Value = V, Iterator = I>>(
         &mut self,
@@ -479,7 +479,7 @@ impl<V: Drop, I: Drop> Frame<V, I> {
     }
 }
 
-/// An empty list with room for this number of values, in the memory of one that is no longer used where there is one.
+/// An empty list with room for this number of values, in the memory of one that is no longer used if there is one.
 fn with_room<V: Drop>(
     alloc: Global,
     room: usize,

@@ -99,7 +99,7 @@ impl<'a, V: Drop, I: Drop> Frames<'a, V, I> {
         }
     }
 
-    /// The frame on top does the operation where it stands, where that is done at once. `false` where it isn't.
+    /// The frame on top does the operation where it stands, if that is done at once. `false` if it isn't.
     #[inline(always)]
     pub(crate) fn quick_turn<H: Host<Value = V, Iterator = I>>(&mut self, host: &mut H) -> bool
         requires { IsStanding self.old.body.program self.old }
@@ -154,7 +154,7 @@ impl<'a, V: Drop, I: Drop> Frames<'a, V, I> {
         }
     }
 
-    /// Runs the function at an index, where there is room for it.
+    /// Runs the function at an index, if there is room for it.
     fn call<H: Host<Value = V, Iterator = I>>(
         &mut self,
         alloc: Global,
@@ -406,12 +406,12 @@ impl<'a, V: Drop, I: Drop> Frames<'a, V, I> {
     }
 }
 
-/// Keeps the memory of a frame that ended. Where the list can't grow, that memory is freed.
+/// Keeps the memory of a frame that ended. If the list can't grow, that memory is freed.
 fn keep_memory<V: Drop, I: Drop>(spare: &mut Vec<Vec<V>>, ended: Frame<V, I>) {
     let _kept = spare.push(ended.into_operands());
 }
 
-/// The value that a function returned, or unit where it returned none.
+/// The value that a function returned, or unit if it returned none.
 #[inline(always)]
 fn value_or_unit<H: Host>(host: &mut H, value: Option<H::Value>) -> H::Value
     ensures { IfSome value (λ returned. result ≡ returned) }

@@ -27,7 +27,7 @@ pub struct Request<'a> {
     pub op: &'a Op,
 }
 
-/// What a host answers where an operation gives a value.
+/// What a host answers if an operation gives a value.
 #[derive(Drop)]
 pub enum Reply<V> {
     /// The value.
@@ -114,7 +114,7 @@ pub trait Host {
             request.now.op.now (length operands.old) }
         requires gives { gives (setting_of request.now.program.now) request.now.op.now ≡ 0 };
 
-    /// As [`give`](Host::give), where a look at the operands is enough for the value. With `None` the machine calls `give`, so nothing
+    /// As [`give`](Host::give), if a look at the operands is enough for the value. With `None` the machine calls `give`, so nothing
     /// may have changed.
     fn quick_give(
         &mut self,
@@ -128,7 +128,7 @@ pub trait Host {
         None
     }
 
-    /// As [`take`](Host::take), where a look at the operands is enough. With `false` the machine calls `take`, so nothing may have
+    /// As [`take`](Host::take), if a look at the operands is enough. With `false` the machine calls `take`, so nothing may have
     /// changed.
     fn quick_take(&mut self, _request: &Request<'_>, _operands: &[Self::Value]) -> bool
         requires asked { IsAsked _request.now.program.now _request.now.chunk _request.now.at
@@ -156,7 +156,7 @@ pub trait Host {
     /// Moves an iterator past the item that [`quick_next`](Host::quick_next) gave.
     fn went_on(&mut self, _iterator: &mut Self::Iterator) {}
 
-    /// Whether dropping the value does anything. Where it doesn't, the machine forgets the value.
+    /// Whether dropping the value does anything. If it doesn't, the machine forgets the value.
     fn needs_drop(&self, _value: &Self::Value) -> bool {
         true
     }
@@ -195,7 +195,7 @@ pub trait Host {
     ) -> Result<Self::Iterator, Self::Fault>
         requires met { IsRequested request.now.program.now request.now.chunk request.now.at request.now.op.now };
 
-    /// The next item, or `None` past the last. Where a slot counts the items, it is the host that counts there.
+    /// The next item, or `None` past the last. If a slot counts the items, it is the host that counts there.
     ///
     /// # Errors
     /// Why there is none.
@@ -214,7 +214,7 @@ pub trait Host {
     /// Binds a fault that a handler caught to the name at the index, if it has one.
     ///
     /// # Errors
-    /// The fault, where it isn't one to be caught: then it ends the run.
+    /// The fault, if it isn't one to be caught: then it ends the run.
     fn caught(&mut self, fault: Self::Fault, name: Option<u32>) -> Result<(), Self::Fault>;
 }
 

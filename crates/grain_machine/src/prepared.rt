@@ -192,7 +192,7 @@ impl<'a> Runnable<'a> {
         }
     }
 
-    /// A run of it begins, in the memory of a frame that ended where there is one.
+    /// A run of it begins, in the memory of a frame that ended if there is one.
     pub(crate) fn first_frame<V: Drop, I: Drop>(
         &self,
         alloc: Global,

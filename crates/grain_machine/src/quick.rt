@@ -1,4 +1,4 @@
-//! Frequent operations, where the host does them at once. They keep nothing ready for a fault, so that they take few instructions.
+//! Frequent operations, if the host does them at once. They keep nothing ready for a fault, so that they take few instructions.
 ghost use Rattle.std.specs.Prelude.{◌≡◌, ◌≤◌};
 ghost use Rattle.std.specs.Bool.{OnFalse, OnTrue};
 ghost use Rattle.grain_code.specs.declared.op.Op.{Op};
@@ -12,7 +12,7 @@ use crate::prepared::Runnable;
 use grain_code::Op;
 
 impl<'a> Runnable<'a> {
-    /// Does the operation that stands where the run is, where it is a frequent one and the host does it at once. `false` where not.
+    /// Does the operation that stands where the run is, if it is a frequent one and the host does it at once. `false` if not.
     #[inline(always)]
     pub(crate) fn quick_step<H: Host>(
         &self,

@@ -226,7 +226,7 @@ impl<'a> Runnable<'a> {
         }
     }
 
-    /// Ends a parked run of the same program, and returns where its outermost frame was.
+    /// Ends a parked run of the same program, and returns if its outermost frame was.
     fn stop<H: Host>(&self, host: &mut H, run: Parked<H::Value, H::Iterator>) -> usize
         requires { IsParked self.now.program run }
         ensures { result ≡ (outermost_of (parked_stack run)).machine.address }

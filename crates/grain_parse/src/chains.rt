@@ -82,7 +82,7 @@ fn read_method(pools: &mut Pools, cursor: &mut Cursor<'_>) -> Result<Step, Stop>
     })
 }
 
-/// Reads a step, or nothing where none is next.
+/// Reads a step, or nothing if none is next.
 fn read_step(pools: &mut Pools, cursor: &mut Cursor<'_>) -> Result<Option<Step>, Stop> {
     let start = cursor.left;
     match cursor.word()? {

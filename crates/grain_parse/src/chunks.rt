@@ -155,7 +155,7 @@ impl Chunks {
         }
     }
 
-    /// Takes the whole code as the main chunk where the text has none.
+    /// Takes the whole code as the main chunk if the text has none.
     pub fn complete(&mut self, len: usize) -> Result<Chunk, Stop>
         ensures { IfOk result (λ main. MatchOption self.old.main
             (main ≡ record { entry = 0; end = len; max_stack = 65535 })

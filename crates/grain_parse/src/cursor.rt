@@ -1,4 +1,4 @@
-//! A cursor over a line. What reads a thing moves it past that; where something is wrong, it stays at what is wrong.
+//! A cursor over a line. What reads a thing moves it past that; if something is wrong, it stays at what is wrong.
 ghost use Rattle.std.specs.Prelude.{◌≡◌, ◌<◌, ◌≤◌, ◌∷◌, ◌++◌, IfOk, IfSome, MatchOption, MatchResult, false, length, position, true};
 ghost use Rattle.std.specs.Bool.{OnFalse, OnTrue};
 ghost use Rattle.std.specs.Str.Parse.{ParsesUnsigned, error_kind};
@@ -326,7 +326,7 @@ impl<'a> Cursor<'a> {
         Ok(Some(Position::new(line, column)))
     }
 
-    /// Reads a position, which is none where none is next.
+    /// Reads a position, which is none if none is next.
     pub fn position_or_none(&mut self) -> Result<Position, Stop>
         ensures { IfOk result (λ position.
             ReadsPositionOrNone self.old.left.now position self.new.left.now) }

@@ -59,7 +59,7 @@ pub(crate) struct Head {
     debug_id: u128,
     fragments: usize,
     source: Option<String>,
-    /// How many bytes have a position, where the text says so.
+    /// How many bytes have a position, if the text says so.
     positions: Option<usize>,
     /// How many it may declare.
     most_positions: u64,
@@ -381,7 +381,7 @@ fn positions_of(
     places: &[(usize, Position)],
     len: usize,
 ) -> Result<Positions, AllocError>
-    // As many as are declared, or else as the code has. None are kept where none are declared and none are noted.
+    // As many as are declared, or else as the code has. None are kept if none are declared and none are noted.
     ensures { IfOk result (λ positions. MatchOption (listed_positions positions)
         ((declared ≡ None) × (places.now ≡ []))
         (λ list. length list ≡ unwrap_or declared len)) }

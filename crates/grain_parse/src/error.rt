@@ -143,7 +143,7 @@ pub(crate) struct Flaw {
 pub struct SyntaxError {
     /// Which line it is, from 1.
     pub line: usize,
-    /// At which of its bytes something is wrong, from 1; one past the last where something is missing.
+    /// At which of its bytes something is wrong, from 1; one past the last if something is missing.
     pub column: usize,
     /// The line itself.
     pub text: String,

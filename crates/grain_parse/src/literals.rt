@@ -7,7 +7,7 @@ ghost use Rattle.grain_parse.specs.Literals.{IsEscape, IsLiteral, IsOfDigits, Is
 use crate::cursor::Cursor;
 use crate::error::{LineProblem, Stop};
 
-/// The byte that two hexadecimal digits are, where it is ASCII.
+/// The byte that two hexadecimal digits are, if it is ASCII.
 fn escaped_byte(high: u8, low: u8) -> Option<u8>
     ensures { IfSome result (IsOfDigits high low) }
 {

@@ -15,7 +15,7 @@ use std::alloc::Global;
 /// What a text says. Its open chunks, which say `stack auto` or nothing of their stack, still have to declare their depths.
 #[derive(Drop)]
 pub struct Parsed {
-    /// The program, in which open chunks declare 65535 operands. It has all capabilities where the text declares none.
+    /// The program, in which open chunks declare 65535 operands. It has all capabilities if the text declares none.
     pub program: Program,
     /// Which chunks are open: 0 the main one, 1 that of the first function.
     pub automatic: Vec<usize>,
@@ -24,11 +24,11 @@ pub struct Parsed {
 }
 
 impl Parsed {
-    /// The program, in which each open chunk declares its depth. Where the text declares no capabilities, the program declares
+    /// The program, in which each open chunk declares its depth. If the text declares no capabilities, the program declares
     /// the least that suffice. It is verified if a chunk is open, and costs as much.
     ///
     /// # Errors
-    /// `Refused` if the program is verified and isn't accepted, `OutOfMemory` where a growth was refused.
+    /// `Refused` if the program is verified and isn't accepted, `OutOfMemory` if an allocation failed.
     pub fn finish(self, alloc: Global) -> Result<Program, ParseError>
         // All else is as it was.
         ensures rest { IfOk result (λ p.

@@ -100,7 +100,7 @@ fn read_lines(alloc: Global, labels: &Labels, lines: &[&str]) -> Result<Draft, F
     Ok(draft)
 }
 
-/// What was read, as a program. Where it has none, no line is at fault.
+/// What was read, as a program. If it has none, no line is at fault.
 fn finish(alloc: Global, draft: Draft) -> Result<Parsed, ParseError>
     ensures { (texts : List (List ℕ)) → IfErr result (IsPlacedError texts) }
 {
@@ -127,8 +127,8 @@ fn draft_of(alloc: Global, lines: &[&str]) -> Result<Draft, Flaw>
 /// For a name, a plain constant, an operator and an op-assignment in place it goes over the entries that are there.
 ///
 /// # Errors
-/// `Syntax` with the first line that is wrong, labels before all else. `NamesTooLong` where its names have more than 4294967295
-/// bytes, `OutOfMemory` where a growth was refused.
+/// `Syntax` with the first line that is wrong, labels before all else. `NamesTooLong` if its names have more than 4294967295
+/// bytes, `OutOfMemory` if an allocation failed.
 pub fn read(alloc: Global, text: &str) -> Result<Parsed, ParseError>
     // A line that is refused is one of the text, and the column is in it or one past its end.
     ensures { IfErr result (IsPlacedError (lines text.now)) }
@@ -140,11 +140,11 @@ pub fn read(alloc: Global, text: &str) -> Result<Parsed, ParseError>
     }
 }
 
-/// The program of an assembly text. Only where a chunk says `stack auto`, or nothing of its stack, it is verified;
+/// The program of an assembly text. Only if a chunk says `stack auto`, or nothing of its stack, it is verified;
 /// [`parse_accepted`] verifies each. It costs one [`read`] and one [`Parsed::finish`].
 ///
 /// # Errors
-/// As [`read`], and `Refused` where the program has to be verified and isn't accepted.
+/// As [`read`], and `Refused` if the program has to be verified and isn't accepted.
 pub fn parse(alloc: Global, text: &str) -> Result<Program, ParseError>
     ensures { IfErr result (IsPlacedError (lines text.now)) }
 {

@@ -120,7 +120,7 @@ impl Pools {
         }
     }
 
-    /// The index of a name, which gets an entry where it has none.
+    /// The index of a name, which gets an entry if it has none.
     fn name_index(&mut self, name: String) -> Result<u32, Stop>
         ensures entered { IfOk result (Enters (λ other. string_bytes other ≡ string_bytes name)
             self.old.names.items self.new.names.items) }
@@ -149,7 +149,7 @@ impl Pools {
         }
     }
 
-    /// The index of an operator, which gets an entry where it has none.
+    /// The index of an operator, which gets an entry if it has none.
     fn token_index(&mut self, token: Token) -> Result<u32, Stop>
         ensures { IfOk result (Enters (λ other. token_parts other ≡ token_parts token)
             self.old.tokens.items self.new.tokens.items) }
@@ -163,7 +163,7 @@ impl Pools {
         }
     }
 
-    /// The index of an op-assignment, which gets an entry where it has none.
+    /// The index of an op-assignment, which gets an entry if it has none.
     fn assign_op_index(&mut self, assign_op: AssignOp) -> Result<u32, Stop>
         ensures entered { IfOk result (Enters (λ other. AreSameAssignOps other assign_op)
             self.old.assign_ops.items self.new.assign_ops.items) }

@@ -72,7 +72,7 @@ fn write_field(out: &mut String, marks: &Marks, field: Field) -> Result<(), Allo
     }
 }
 
-/// Appends a label where a line at the address has one.
+/// Appends a label if a line at the address has one.
 fn write_label(out: &mut String, marks: &Marks, at: usize) -> Result<(), AllocError> {
     if marks.has_label(at) {
         write!(out, "L{at}:\n")?;

@@ -250,7 +250,7 @@ impl<'a> Printer<'a> {
 /// [`Printer`], and takes memory for the text.
 ///
 /// # Errors
-/// Where a growth was refused. Each program has a text, also one that no file keeps and one that isn't accepted.
+/// An allocation failed. Each program has a text, also one that no file keeps and one that isn't accepted.
 pub fn print(alloc: Global, program: &Program) -> Result<String, AllocError> {
     let printer = Printer::new(alloc, program)?;
     let mut out = String::new(alloc);

@@ -5,7 +5,7 @@ use std::alloc::{AllocError, Global};
 /// How many bytes of a text a comment shows.
 const LONGEST: usize = 64;
 
-/// Appends a character of a literal, with an escape where it would end the literal or isn't printable.
+/// Appends a character of a literal, with an escape if it would end the literal or isn't printable.
 fn write_escaped(out: &mut String, c: char, quote: char) -> Result<(), AllocError> {
     if c == quote || c == '\\' {
         out.push('\\')?;

@@ -120,7 +120,7 @@ pub enum VerifyError {
         /// The index; of a step's operands, that of the last.
         index: u32,
     },
-    /// A growth was refused.
+    /// An allocation failed.
     OutOfMemory,
 }
 

@@ -22,7 +22,7 @@ impl Chance {
         self.rng.next_u64()
     }
 
-    /// A number below the limit, or 0 where that is 0.
+    /// A number below the limit, or 0 if that is 0.
     pub fn below(&mut self, limit: u32) -> u32 {
         if limit == 0 {
             return 0;
@@ -32,17 +32,17 @@ impl Chance {
         u32::try_from(word % u64::from(limit)).unwrap_or(0)
     }
 
-    /// A number below the limit, or 0 where that is 0.
+    /// A number below the limit, or 0 if that is 0.
     pub fn small(&mut self, limit: u16) -> u16 {
         u16::try_from(self.below(u32::from(limit))).unwrap_or(0)
     }
 
-    /// A number below the limit, or 0 where that is 0.
+    /// A number below the limit, or 0 if that is 0.
     pub fn byte(&mut self, limit: u8) -> u8 {
         u8::try_from(self.below(u32::from(limit))).unwrap_or(0)
     }
 
-    /// An index into a list of this length, or 0 where it is empty.
+    /// An index into a list of this length, or 0 if it is empty.
     pub fn index(&mut self, len: usize) -> usize {
         let limit = u32::try_from(len).unwrap_or(u32::MAX);
         self.below(limit) as usize
@@ -53,7 +53,7 @@ impl Chance {
         self.below(cases) == 0
     }
 
-    /// One of the items, or nothing where there is none.
+    /// One of the items, or nothing if there is none.
     pub fn pick<T: Copy>(&mut self, items: &[T]) -> Option<T> {
         let index = self.index(items.len());
         items.get(index).copied()

@@ -13,7 +13,7 @@ pub enum SmithError {
     /// There are as many functions as chunks, and so no chunk for the top level: an error of this crate too.
     #[error("missing `main`")]
     Uneven,
-    /// A growth was refused.
+    /// An allocation failed.
     #[error("out of memory")]
     OutOfMemory,
 }

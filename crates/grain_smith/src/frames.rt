@@ -40,14 +40,14 @@ pub struct Arms {
     pub end: u32,
     /// How many operands there are where an arm begins.
     pub begins: u32,
-    /// How many operands there are at the end, where an arm has ended.
+    /// How many operands there are at the end, if an arm has ended.
     pub ends: Option<u32>,
 }
 
 /// A piece of code that is open.
 #[derive(Clone, Copy, Drop)]
 pub enum Frame {
-    /// Code that may be skipped up to its end, where there is this number of operands.
+    /// Code that may be skipped up to its end, if there is this number of operands.
     Skipped {
         /// Its end.
         end: u32,

@@ -37,7 +37,7 @@ impl<F: Fn(&mut Emitter, &Expr, usize, bool) -> Result<(), CompileError>> Coder<
         self.read(emitter, place, root, rest, from > 0)
     }
 
-    /// Ends the chain at the step at an index where that has to be. The steps before the first place are done; the result is the
+    /// Ends the chain at the step at an index if that has to be. The steps before the first place are done; the result is the
     /// place up to which they are done now.
     fn turn(
         &self,
@@ -307,7 +307,7 @@ fn step_at(steps: &[Access], index: usize) -> &Access
     &steps[index]
 }
 
-/// The steps from one index to another, or none where there are fewer.
+/// The steps from one index to another, or none if there are fewer.
 fn part(steps: &[Access], from: usize, to: usize) -> &[Access]
     ensures { (test : _) → pass test (steps_places steps.now) ≡ true
         → pass test (steps_places result.now) ≡ true }

@@ -13,7 +13,7 @@ use rhai_lexer::{CompileError, Place};
 use rhai_syntax::{Branch, Catch, Expr, Form};
 
 impl<F: Fn(&mut Emitter, &Expr, usize, bool) -> Result<(), CompileError>> Coder<F> {
-    /// What gives a value only where it is wanted.
+    /// What gives a value only if it is wanted.
     pub(crate) fn statement(
         &self,
         emitter: &mut Emitter,
@@ -164,7 +164,7 @@ impl<F: Fn(&mut Emitter, &Expr, usize, bool) -> Result<(), CompileError>> Coder<
         emitter.code.bind(next)
     }
 
-    /// The value, or unit where there is none.
+    /// The value, or unit if there is none.
     pub(crate) fn optional(
         &self,
         emitter: &mut Emitter,
@@ -205,7 +205,7 @@ impl<F: Fn(&mut Emitter, &Expr, usize, bool) -> Result<(), CompileError>> Coder<
         emitter.code.bind(end)
     }
 
-    /// Statements whose faults are caught; where there is none they lead to the end. Code after this is that of the `catch`.
+    /// Statements whose faults are caught; if there is none they lead to the end. Code after this is that of the `catch`.
     fn guarded(
         &self,
         emitter: &mut Emitter,

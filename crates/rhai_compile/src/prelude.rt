@@ -73,7 +73,7 @@ const ENTRIES: &'static [Entry] = &[
     },
 ];
 
-/// The functions of the prelude that the script names and doesn't have itself; empty where there are none.
+/// The functions of the prelude that the script names and doesn't have itself; empty if there are none.
 pub(crate) fn needed(alloc: Global, syntax: &Syntax) -> Result<String, AllocError> {
     let mut text = String::new(alloc);
     for entry in ENTRIES {

@@ -29,7 +29,7 @@ const MAX_LEVELS: usize = 8 * MAX_DEPTH;
 /// are read again for each arm with a condition. The code is assembled once, and verified once.
 ///
 /// # Errors
-/// The first thing that is wrong with the text, with its line and column. `OutOfMemory` has no place, nor has `TooMany` where it
+/// The first thing that is wrong with the text, with its line and column. `OutOfMemory` has no place, nor has `TooMany` if it
 /// is about the program as a whole. What it makes is never refused.
 pub fn compile(alloc: Global, source: &str, options: &Options) -> Result<Verified, CompileError>
     ensures placed { IfErr result (HasPlaces source.now) }

@@ -76,7 +76,7 @@ impl<F: Fn(&mut Emitter, &Expr, usize, bool) -> Result<(), CompileError>> Coder<
         emitter.code.jump(arm.place, labels.end, operands)
     }
 
-    /// The condition of an arm, if it has one, and the switch where it doesn't hold.
+    /// The condition of an arm, if it has one, and where the switch goes if it doesn't hold.
     fn condition(
         &self,
         emitter: &mut Emitter,

@@ -155,7 +155,7 @@ functions_places functions = all_of (map function_places functions)
 abbrev pub start : Place
 start = record { line = 1; column = 1 }
 
--- The places of the statements outside of functions, or the start of the text where there is none: its chunk gives unit.
+-- The places of the statements outside of functions, or the start of the text if there is none: its chunk gives unit.
 abbrev pub script_places : List Expr → Places
 script_places [] = here start
 script_places (first ∷ others) = list_places (first ∷ others)

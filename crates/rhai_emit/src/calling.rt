@@ -144,7 +144,7 @@ impl Emitter {
         self.put(place, call)
     }
 
-    /// Calls the function pointer below this many arguments on a variable. Where the variable has a function pointer itself,
+    /// Calls the function pointer below this many arguments on a variable. If the variable has a function pointer itself,
     /// that one is called, with the value below the arguments as the first of them.
     pub fn call_pointer_on(
         &mut self,

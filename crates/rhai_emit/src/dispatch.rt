@@ -29,12 +29,12 @@ pub struct Labels {
     pub end: u32,
     /// Where no arm is taken.
     pub none: u32,
-    /// Where the first arm begins, or `none` where there is no arm.
+    /// Where the first arm begins, or `none` if there is no arm.
     pub first: u32,
 }
 
 impl Labels {
-    /// Where the arm with this place among the arms begins; past the arms where no arm is taken.
+    /// Where the arm with this place among the arms begins; past the arms if no arm is taken.
     pub fn arm(&self, index: usize) -> u32
         requires { self.now.none ≤ self.now.first }
         ensures least { self.now.none ≤ result }

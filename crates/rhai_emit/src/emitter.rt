@@ -19,7 +19,7 @@ pub struct Signature {
     pub name: u32,
     /// Its parameters.
     pub params: Vec<Binding>,
-    /// The name of the type of `this`, where it is declared for one.
+    /// The name of the type of `this`, if it is declared for one.
     pub this_type: Option<u32>,
     /// Whether only this script may call it.
     pub is_private: bool,

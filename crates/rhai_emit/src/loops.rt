@@ -1,4 +1,4 @@
-//! Loops: how they begin, and what is dropped where they are left.
+//! Loops: how they begin, and what is dropped when they are left.
 ghost use Rattle.std.specs.Prelude.{◌≡◌, ◌+◌, ◌-◌, ◌≤◌, IfOk, OnOk, Some, false, slice_get, true};
 ghost use Rattle.grain_builder.specs.Assembler.{StaysIn, SameLabels, guarded, spot, frame_without_iterator};
 ghost use Rattle.rhai_emit.specs.Loops.{IsBare, count};

@@ -5,7 +5,7 @@ ghost use Rattle.grain_base.specs.Place.{place_of};
 use grain_base::Position;
 use rhai_lexer::Place;
 
-/// A place as a position of a program, which is none where its numbers are too great.
+/// A place as a position of a program, which is none if its numbers are too great.
 pub fn position(place: Place) -> Position
     ensures own { IfSome (place_of result) (λ p. place ≡ record { line = p.0; column = p.1 }) }
     ensures kept { 1 ≤ place.line → place.line ≤ 65535 → place.column ≤ 65535

@@ -17,7 +17,7 @@ const SIMILAR: usize = 2;
 const LONGEST_COMPARED: usize = 64;
 
 impl Emitter {
-    /// The local variable of this name, or none where the host has it.
+    /// The local variable of this name, or none if the host has it.
     ///
     /// # Errors
     /// No variable has this name, and the host has no variables.

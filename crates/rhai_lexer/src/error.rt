@@ -272,7 +272,7 @@ pub enum Problem {
 /// Why a source text isn't compiled.
 #[derive(Clone, Copy, Debug, PartialEq, Eq, Drop)]
 pub struct CompileError {
-    /// Where it was noticed, or no place where the problem is with no part of the text.
+    /// Where it was noticed, or no place if the problem is with no part of the text.
     pub place: Place,
     /// What is wrong.
     pub problem: Problem,

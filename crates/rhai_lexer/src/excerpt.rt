@@ -3,7 +3,7 @@
 use crate::error::{CompileError, Place, Problem};
 use std::alloc::{AllocError, Global};
 
-/// An error as a person reads it: the file, the place and the sentence, then the line with a caret below the place. Where
+/// An error as a person reads it: the file, the place and the sentence, then the line with a caret below the place. If
 /// another place explains the error, that follows as a note. It takes time linear in the length of the text.
 ///
 /// # Errors

@@ -24,7 +24,7 @@ struct Lexer<'s> {
     found: Lexemes,
     /// How many braces are open.
     braces: usize,
-    /// How many braces were open where each open interpolation began.
+    /// How many braces were open when each open interpolation began.
     interpolations: Vec<usize>,
 }
 

@@ -37,7 +37,7 @@ impl Names {
         Ok(place)
     }
 
-    /// The text at an index, or the empty text where there is none.
+    /// The text at an index, or the empty text if there is none.
     pub fn get(&self, index: u32) -> &str {
         match self.list.get(index as usize) {
             Some(name) => name.as_str(),

@@ -15,7 +15,7 @@ use std::mem;
 use std::rc::Rc;
 
 impl<W: World + Drop> Script<W> {
-    /// What a chain gives. Below all others lie the operands of its steps, above them its root, where that is a value, or what is
+    /// What a chain gives. Below all others lie the operands of its steps, above them its root, if that is a value, or what is
     /// assigned.
     pub(crate) fn chain(
         &mut self,
@@ -57,7 +57,7 @@ impl<W: World + Drop> Script<W> {
         Ok(Reply::Value(given.unwrap_or(Value::Unit)))
     }
 
-    /// Reads a plain item of an array in a local variable, or assigns a plain value to one. `None` where the chain does something else,
+    /// Reads a plain item of an array in a local variable, or assigns a plain value to one. `None` if the chain does something else,
     /// or fails: then nothing has changed.
     #[inline(always)]
     pub(crate) fn item(
@@ -94,7 +94,7 @@ impl<W: World + Drop> Script<W> {
         Some(Value::Unit)
     }
 
-    /// Reads a plain entry of an object map in a local variable or `this`, or assigns a plain value to one. `None` where the chain does
+    /// Reads a plain entry of an object map in a local variable or `this`, or assigns a plain value to one. `None` if the chain does
     /// something else, or fails: then nothing has changed.
     #[inline(never)]
     pub(crate) fn entry(
@@ -123,7 +123,7 @@ impl<W: World + Drop> Script<W> {
         Some(Value::Unit)
     }
 
-    /// The place of the value of a local variable or of `this`, a share itself where it is one.
+    /// The place of the value of a local variable or of `this`, a share itself if it is one.
     fn plain_root(&mut self, root: &Root) -> Option<&mut Value> {
         match root {
             Root::Local { slot, .. } => self.variables.slot_mut(*slot),
@@ -397,7 +397,7 @@ fn variable_of(root: &Root) -> Result<Variable, Cause> {
     }
 }
 
-/// What a part of a value becomes where a plain value is assigned to it, by way of an op-assignment if there is one. `None` where
+/// What a part of a value becomes if a plain value is assigned to it, by way of an op-assignment if there is one. `None` if
 /// one of them isn't plain, and as [`arithmetic`].
 #[inline(always)]
 fn assigned(program: &Program, op: Option<u32>, old: &Value, value: &Value) -> Option<Value> {

@@ -141,7 +141,7 @@ impl<W: World + Drop> Script<W> {
     }
 
     /// Calls the function of a pointer that lies below its arguments. In method position what it is called on, a value below the
-    /// pointer or a variable, is `this` there. Where that is a function pointer itself, it is the one that is called.
+    /// pointer or a variable, is `this` there. If that is a function pointer itself, it is the one that is called.
     pub(crate) fn call_pointer(
         &mut self,
         program: &Program,
@@ -169,7 +169,7 @@ impl<W: World + Drop> Script<W> {
         self.call_below(program, None, operands)
     }
 
-    /// Calls the function of the pointer that lies below its arguments, on a variable or a value where there is one.
+    /// Calls the function of the pointer that lies below its arguments, on a variable or a value if there is one.
     #[inline]
     fn call_below(
         &mut self,

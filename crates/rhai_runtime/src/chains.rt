@@ -96,7 +96,7 @@ fn put_back(
     Ok(())
 }
 
-/// What is done where no step is left.
+/// What is done if no step is left.
 fn finish(context: &Context<'_>, value: &mut Value, goal: Goal) -> Result<Value, Cause> {
     match goal {
         Goal::Read => Ok(value.clone()?),
@@ -131,7 +131,7 @@ pub(crate) fn assign_to(
     }
 }
 
-/// The cause where an operator doesn't take such operands.
+/// The cause if an operator doesn't take such operands.
 fn no_operator(context: &Context<'_>, name: u32, left: &Value, right: &Value) -> Cause {
     let name = context.program.names().get(name).unwrap_or("");
     Cause::no_function(context.alloc, name, Some(left), slice::from_ref(right))
@@ -183,7 +183,7 @@ fn made_part(value: Value) -> Part {
     }
 }
 
-/// The item to which a step leads, taken out of its array; `None` where the step is no index.
+/// The item to which a step leads, taken out of its array; `None` if the step is no index.
 fn taken_item(
     list: &mut Rc<List>,
     step: &Step,
@@ -215,7 +215,7 @@ pub(crate) fn entry_name<'o>(
     }
 }
 
-/// A copy of the entry to which a step leads, or unit where there is none.
+/// A copy of the entry to which a step leads, or unit if there is none.
 fn entry(
     program: &Program,
     object: &Object,
@@ -344,7 +344,7 @@ fn called(
     Err(Cause::no_function(context.alloc, name, Some(value), arguments))
 }
 
-/// The keys of steps that are all indices and properties; `None` where one is a method.
+/// The keys of steps that are all indices and properties; `None` if one is a method.
 pub(crate) fn keys_of(
     context: &Context<'_>,
     steps: &[Step],

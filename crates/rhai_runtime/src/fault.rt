@@ -17,7 +17,7 @@ pub struct Fault {
     pub cause: Cause,
     /// The address of the operation that failed, in the chunk where the fault came.
     pub at: usize,
-    /// Where the step of a chain that failed is in the source text. It is none where no step failed, or positions were stripped.
+    /// Where the step of a chain that failed is in the source text. It is none if no step failed, or positions were stripped.
     pub step: Position,
 }
 
@@ -35,7 +35,7 @@ impl Fault {
         }
     }
 
-    /// The cause, followed by the line and the column where the program's positions have them.
+    /// The cause, followed by the line and the column if the program's positions have them.
     ///
     /// # Errors
     /// Out of memory.
@@ -52,7 +52,7 @@ impl Fault {
     }
 }
 
-/// Why an operation fails, and at which step where it is a chain.
+/// Why an operation fails, and at which step if it is a chain.
 #[derive(Drop)]
 pub(crate) struct Failure {
     pub(crate) cause: Cause,

@@ -31,7 +31,7 @@ impl<W: World + Drop> Script<W> {
         Fault { cause, at, step }
     }
 
-    /// What an operation gives, where nothing went wrong before and the limits allow it.
+    /// What an operation gives, if nothing went wrong before and the limits allow it.
     #[inline(never)]
     fn reply(
         &mut self,
@@ -73,7 +73,7 @@ impl<W: World + Drop> Script<W> {
         Ok(Some(item))
     }
 
-    /// Does an operation that gives no value, where nothing went wrong before.
+    /// Does an operation that gives no value, if nothing went wrong before.
     #[inline(never)]
     fn done(&mut self, request: &Request<'_>, operands: &mut [Value]) -> Result<(), Cause> {
         self.raise_pending()?;

@@ -30,7 +30,7 @@ pub struct Script<W> {
     pub(crate) table: Table,
     pub(crate) limits: SizeLimits,
     pub(crate) variables: Variables,
-    /// What went wrong where the machine takes no fault, raised at the next operation.
+    /// What went wrong if the machine takes no fault, raised at the next operation.
     pending: Option<Cause>,
     /// Whether nothing is pending, and the limits allow plain values.
     is_settled: bool,
@@ -54,7 +54,7 @@ impl<W: World + Drop> Script<W> {
     /// A script that has no variables, to run this program. It takes time and memory by the program's pools.
     ///
     /// # Errors
-    /// Out of memory, or [`Cause::Unsupported`] where a constant is a value of another host.
+    /// Out of memory, or [`Cause::Unsupported`] if a constant is a value of another host.
     pub fn new(
         alloc: Global,
         program: &Program,
@@ -272,7 +272,7 @@ impl<W: World + Drop> Script<W> {
         Ok(Reply::Value(value))
     }
 
-    /// The value, where the limits allow one as large.
+    /// The value, if the limits allow one as large.
     pub(crate) fn allowed(&self, value: &Value) -> Result<(), Cause> {
         if self.limits.allow(value.measure()) {
             Ok(())
@@ -281,7 +281,7 @@ impl<W: World + Drop> Script<W> {
         }
     }
 
-    /// What went wrong before, where it couldn't be raised.
+    /// What went wrong before, if it couldn't be raised.
     #[inline]
     pub(crate) fn raise_pending(&mut self) -> Result<(), Cause> {
         match self.pending.take() {

@@ -12,7 +12,7 @@ use std::rc::Rc;
 #[derive(Clone, Copy, Drop)]
 struct Declared {
     params: usize,
-    /// The name of the type of its receiver, where it is declared for one.
+    /// The name of the type of its receiver, if it is declared for one.
     this_type: Option<u32>,
     index: usize,
 }
@@ -151,7 +151,7 @@ impl Table {
     }
 }
 
-/// The index, where the program has a function there.
+/// The index, if the program has a function there.
 fn within(program: &Program, index: usize) -> Option<usize>
     ensures { IfSome result (λ index. index < length program.now.functions) }
 {

@@ -17,7 +17,7 @@ pub trait World {
     /// As [`print`](World::print).
     fn debug(&mut self, line: &str) -> Result<(), Cause>;
 
-    /// Calls a function of the world. It is called where neither the script nor the library has one of this name that takes
+    /// Calls a function of the world. It is called if neither the script nor the library has one of this name that takes
     /// these arguments. `None` means that the world has none either.
     ///
     /// # Errors

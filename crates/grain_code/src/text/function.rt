@@ -16,7 +16,7 @@ impl Function {
     /// # Errors
     ///
     /// [`DisassembleError::Missing`] for the first name that isn't there, in the order of the text;
-    /// [`DisassembleError::OutOfMemory`] if a growth was refused.
+    /// [`DisassembleError::OutOfMemory`] if an allocation failed.
     pub fn disassemble<L: Lookups>(
         &self,
         alloc: Global,

@@ -18,7 +18,7 @@ impl Op {
     /// # Errors
     ///
     /// [`DisassembleError::Missing`] for the first index that finds nothing, in the order of the text; there is no pool of
-    /// sites of custom syntax. [`DisassembleError::OutOfMemory`] if a growth was refused.
+    /// sites of custom syntax. [`DisassembleError::OutOfMemory`] if an allocation failed.
     pub fn disassemble<L: Lookups>(
         &self,
         alloc: Global,

@@ -15,7 +15,7 @@ impl AssignOp {
     /// # Errors
     ///
     /// [`DisassembleError::Missing`] for the first of the two names that isn't there, [`DisassembleError::OutOfMemory`]
-    /// if a growth was refused.
+    /// if an allocation failed.
     pub fn disassemble<L: Lookups>(
         &self,
         alloc: Global,

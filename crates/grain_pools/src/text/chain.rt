@@ -40,7 +40,7 @@ impl Tail {
     /// # Errors
     ///
     /// [`DisassembleError::Missing`] if the op-assignment or a name of it isn't there,
-    /// [`DisassembleError::OutOfMemory`] if a growth was refused.
+    /// [`DisassembleError::OutOfMemory`] if an allocation failed.
     pub fn disassemble<L: Lookups>(
         &self,
         alloc: Global,
@@ -63,7 +63,7 @@ impl Chain {
     /// # Errors
     ///
     /// [`DisassembleError::Missing`] for the first name or op-assignment that isn't there, in the order of the text;
-    /// [`DisassembleError::OutOfMemory`] if a growth was refused.
+    /// [`DisassembleError::OutOfMemory`] if an allocation failed.
     pub fn disassemble<L: Lookups>(
         &self,
         alloc: Global,

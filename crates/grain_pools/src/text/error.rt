@@ -16,7 +16,7 @@ pub enum DisassembleError {
         /// The index.
         index: u32,
     },
-    /// A growth was refused.
+    /// An allocation failed.
     OutOfMemory,
 }
 

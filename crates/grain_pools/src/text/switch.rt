@@ -14,7 +14,7 @@ impl SwitchRange {
     ///
     /// # Errors
     ///
-    /// `AllocError` if a growth was refused.
+    /// `AllocError` if an allocation failed.
     pub fn disassemble(&self, alloc: Global) -> Result<String, AllocError> {
         let mut out = String::new(alloc);
         write_range(&mut out, self)?;
@@ -29,7 +29,7 @@ impl Switch {
     /// # Errors
     ///
     /// [`DisassembleError::Missing`] for the first case, in that order, whose constant isn't there;
-    /// [`DisassembleError::OutOfMemory`] if a growth was refused.
+    /// [`DisassembleError::OutOfMemory`] if an allocation failed.
     pub fn disassemble<L: Lookups>(
         &self,
         alloc: Global,

@@ -120,7 +120,7 @@ fn visit(rt: &HostRuntime, is_json: bool, path: &str) -> Result<bool, Failure> {
     Ok(flaw.is_none())
 }
 
-/// Compiles each script, and writes nothing else. The status is 1 where one can't be compiled.
+/// Compiles each script, and writes nothing else. The status is 1 if one can't be compiled.
 pub fn run(rt: &HostRuntime, matches: &ArgMatches<'_>) -> Result<u8, Failure> {
     let is_json = matches.get_flag("json");
     let mut status = 0u8;

@@ -187,13 +187,13 @@ fn show<W: World + Drop>(
 ) -> Result<(), AllocError> {
     if !matches!(value, Value::Unit) {
         let line = format!(in alloc; "{value}")?;
-        // Where it can't be written, the world knows why.
+        // If it can't be written, the world knows why.
         let _written = script.world_mut().print(line.as_str());
     }
     Ok(())
 }
 
-/// Runs the program, and prints its value: what was printed is written also where the run fails.
+/// Runs the program, and prints its value: what was printed is written also if the run fails.
 fn run_script<O: Write + Drop, E: Write + Drop>(
     alloc: Global,
     path: &str,

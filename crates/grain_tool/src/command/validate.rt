@@ -116,12 +116,12 @@ fn explanation_of(
     alloc: Global,
     paint: Paint,
     program: &Program,
-    place: usize,
+    chunk: usize,
 ) -> Result<String, AllocError> {
     let listing = explained(alloc, program)?;
     let naming = Naming::Program(program);
     let mut text = String::new(alloc);
-    write_chunk(Style { paint, naming }, &listing, place, &mut text)?;
+    write_chunk(Style { paint, naming }, &listing, chunk, &mut text)?;
     Ok(text)
 }
 
@@ -135,11 +135,11 @@ fn explain(
     match obstacle {
         Obstacle::Refused(
             Refusal {
-                place: Some(place),
+                chunk: Some(chunk),
                 ..
             },
         ) if report.explain => {
-            let text = explanation_of(rt.alloc(), report.paint, program, *place)?;
+            let text = explanation_of(rt.alloc(), report.paint, program, *chunk)?;
             write_standard(rt, text.as_bytes())
         }
         _ => Ok(()),
