@@ -1,5 +1,8 @@
 //! Calls of a script that the embedding program does.
 
+ghost use Rattle.std.specs.Prelude.{IfOk};
+ghost use Rattle.grain_machine.specs.Resting.{IsParked};
+
 use crate::runs::{ASKING, DECLARE, INVOKE, with_function};
 use crate::samples::{assert_same, made};
 use grain::{Op, Receiver};
@@ -8,9 +11,6 @@ use rhai_runtime::{Script, World};
 use rhai_values::{Cause, Value};
 use std::alloc::Global;
 use std::test::Fail;
-
-ghost use Rattle.std.specs.Prelude.{IfOk};
-ghost use Rattle.grain_machine.specs.Resting.{IsParked};
 
 /// A world whose function `ask` the embedding program does.
 #[derive(Drop)]
@@ -45,10 +45,7 @@ fn answered(
 {
     let begun = main.start(alloc)?;
     script.began();
-    let Progress::Waits {
-        run,
-        turns: _turns,
-    } = main.resume(alloc, begun, script, LIMITS) else {
+    let Progress::Waits { run, turns: _turns } = main.resume(alloc, begun, script, LIMITS) else {
         return Err(Fail::new("the run doesn't wait"));
     };
     let asked = match script.asked() {

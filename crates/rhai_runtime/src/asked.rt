@@ -62,7 +62,10 @@ impl<W: World + Drop> Script<W> {
         let allowed = self.allowed(&value);
         match (returned, allowed) {
             (Ok(()), Ok(())) => Ok(value),
-            (Err(cause), _) | (Ok(()), Err(cause)) => Err(self.failed(self.at, Failure::from(cause))),
+            (Err(cause), _) | (Ok(()), Err(cause)) => Err(self.failed(
+                self.at,
+                Failure::from(cause),
+            )),
         }
     }
 
