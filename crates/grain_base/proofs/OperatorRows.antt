@@ -10,18 +10,18 @@ use Rattle.std.proofs.lemmas.List.Folds.{list_all_at}
 use Rattle.std.specs.Option.{IfNone, IfSome, option_map}
 use Rattle.grain_base.specs.Tokens.{TokenParts, token_parts}
 use Rattle.grain_base.specs.declared.token.Token.{Token}
-use Rattle.grain_base.specs.Operators.{Row, operators, plain, row_at, row_of, text_of}
+use Rattle.grain_base.specs.Operators.{OperatorRow, operators, plain, row_at, row_of, text_of}
 
 many : length operators ≡ 39
 unfolding operators
 many = refl
 
 -- the first row that passes is one of them
-pub found_within : (p : Row → Bool) (found : Option ℕ) → found ≡ position p operators → IfSome found (λ number. number < 39)
+pub found_within : (p : OperatorRow → Bool) (found : Option ℕ) → found ≡ position p operators → IfSome found (λ number. number < 39)
 found_within p None e = tt
 found_within p (Some number) e = let within = (position-Some p operators number (plain []) (sym e)).0 in omega (arith, many)
 
-mapped : {A : Type 0} (f : A → Row) (p : Row → Bool) (rows : List A) → position_or_len p (map f rows) ≡ position_or_len (λ row. p (f row)) rows
+mapped : {A : Type 0} (f : A → OperatorRow) (p : OperatorRow → Bool) (rows : List A) → position_or_len p (map f rows) ≡ position_or_len (λ row. p (f row)) rows
 mapped f p [] = refl
 mapped f p (row ∷ rows) = ap (λ n. cond (not (p (f row))) (1 + n) 0) (mapped f p rows)
 
@@ -30,7 +30,7 @@ module _ (rows : List (Bor (List ℕ) × Option ℕ)) (same : map row_of rows �
   as_many = sym (length-map rows row_of) ∙ ap length same ∙ many
 
   -- the first row of the program that passes is the first row
-  pub first_row : (p : Row → Bool) (found : Option ℕ) → found ≡ position (λ row. p (row_of row)) rows → found ≡ position p operators
+  pub first_row : (p : OperatorRow → Bool) (found : Option ℕ) → found ≡ position (λ row. p (row_of row)) rows → found ≡ position p operators
   first_row p found e =
       let at : position_or_len p operators ≡ position_or_len (λ row. p (row_of row)) rows = ap (position_or_len p) (sym same) ∙ mapped row_of p rows in
       let long : length rows ≡ length operators = as_many ∙ sym many in
@@ -40,7 +40,7 @@ abbrev is_number : Option ℕ → Bool
 is_number None = true
 is_number (Some number) = nat_lt number 39
 
-abbrev stands_for_one : Row → Bool
+abbrev stands_for_one : OperatorRow → Bool
 stands_for_one row = is_number row.base
 
 -- each op-assignment stands for one of them
@@ -52,11 +52,11 @@ passes : {A : Type 0} (test : A → Bool) (rows : List A) (n : ℕ) (row : A) (b
 passes test rows n row true all inside e = refl
 passes test rows n row false all inside e = absurd (let f = list_all_at test rows n row inside e in cc)
 
-abbrev follows : Row → Option ℕ → Bool
+abbrev follows : OperatorRow → Option ℕ → Bool
 follows row None = true
 follows row (Some number) = bytes_eq row.text ((row_at number).text ++ codes "=")
 
-abbrev ends_in_equals : Row → Bool
+abbrev ends_in_equals : OperatorRow → Bool
 ends_in_equals row = follows row row.base
 
 -- each op-assignment has the text of that one, and `=` behind it

@@ -8,22 +8,22 @@ use Rattle.std.proofs.Common.{inl, inr}
 use Rattle.grain_base.specs.Tokens.{TokenParts}
 
 -- an operator's text, and the number of the operator that it stands for if it is an op-assignment
-pub record Row : Type 0 where
+pub record OperatorRow : Type 0 where
   pub text : List ℕ
   pub base : Option ℕ
 
 -- a row as the program has it
-abbrev pub row_of : Bor (List ℕ) × Option ℕ → Row
+abbrev pub row_of : Bor (List ℕ) × Option ℕ → OperatorRow
 row_of row = record { text = row.0.now; base = row.1 }
 
-abbrev pub plain : List ℕ → Row
+abbrev pub plain : List ℕ → OperatorRow
 plain text = record { text = text; base = None }
 
-abbrev pub assignment : List ℕ → ℕ → Row
+abbrev pub assignment : List ℕ → ℕ → OperatorRow
 assignment text base = record { text = text; base = Some base }
 
 -- the operators, in the order of their numbers
-unfoldable pub operators : List Row
+unfoldable pub operators : List OperatorRow
 operators =
     plain (codes "+") ∷ plain (codes "+") ∷ plain (codes "-") ∷ plain (codes "-") ∷ plain (codes "*") ∷ plain (codes "/") ∷ plain (codes "%")
     ∷ plain (codes "**") ∷ plain (codes "<<") ∷ plain (codes ">>") ∷ plain (codes "&") ∷ plain (codes "|") ∷ plain (codes "^") ∷ plain (codes "&&")
@@ -34,7 +34,7 @@ operators =
     ∷ assignment (codes "^=") 12 ∷ []
 
 -- the row of a number
-abbrev pub row_at : ℕ → Row
+abbrev pub row_at : ℕ → OperatorRow
 row_at number = get_or operators number (plain [])
 
 -- the text of an operator
@@ -43,15 +43,15 @@ text_of (inl text) = text
 text_of (inr number) = (row_at number).text
 
 -- the number of the operator that an op-assignment stands for
-abbrev pub base_of : TokenParts → Option ℕ
-base_of (inl _) = None
-base_of (inr number) = (row_at number).base
+abbrev pub base_operator_of : TokenParts → Option ℕ
+base_operator_of (inl _) = None
+base_operator_of (inr number) = (row_at number).base
 
 -- the number of the first operator with this text
 abbrev pub first_with : List ℕ → Option ℕ
-first_with text = position (λ (row : Row). bytes_eq row.text text) operators
+first_with text = position (λ (row : OperatorRow). bytes_eq row.text text) operators
 
 -- the number of the op-assignment that stands for an operator
 abbrev pub assignment_of : TokenParts → Option ℕ
 assignment_of (inl _) = None
-assignment_of (inr number) = position (λ (row : Row). option_eq nat_eq row.base (Some number)) operators
+assignment_of (inr number) = position (λ (row : OperatorRow). option_eq nat_eq row.base (Some number)) operators

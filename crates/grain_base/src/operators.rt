@@ -1,7 +1,7 @@
 //! The operators of the language as source text has them.
 ghost use Rattle.std.specs.Prelude.{◌≡◌, ◌<◌, ◌++◌, IfSome, codes, map, option_map};
 ghost use Rattle.std.proofs.Common.{inr};
-ghost use Rattle.grain_base.specs.Operators.{assignment_of, base_of, first_with, operators, row_at, row_of, text_of};
+ghost use Rattle.grain_base.specs.Operators.{assignment_of, base_operator_of, first_with, operators, row_at, row_of, text_of};
 ghost use Rattle.grain_base.specs.Tokens.{token_parts};
 
 use crate::token::Token;
@@ -115,7 +115,7 @@ impl Token {
     #[must_use]
     pub fn base_operator(&self) -> Option<Token>
         ensures base { option_map token_parts result
-            ≡ option_map inr (base_of (token_parts self.now)) }
+            ≡ option_map inr (base_operator_of (token_parts self.now)) }
         ensures text { IfSome result (λ base. text_of (token_parts self.now)
             ≡ text_of (token_parts base) ++ codes "=") }
     {

@@ -39,11 +39,11 @@ pub record AreFitting (chains : List Chain) (tables : List (List ℕ)) (labels :
   pub falls : (i : ℕ) (op : Op) (p : Spot) (s : Setting) → slice_get ops i ≡ Some op → slice_get spots i ≡ Some p → HasChains s chains → falls_through op ≡ true → slice_get spots (i + 1) ≡ Some (spot_of p.home (after_fall s op (spot_counts p)))
 
 -- how many operands an operation takes and gives if no pool decides it
-abbrev pub taken : Op → ℕ
-taken op = takes unset op
+abbrev pub taken_by : Op → ℕ
+taken_by op = takes unset op
 
-abbrev pub given : Op → ℕ
-given op = gives unset op
+abbrev pub given_by : Op → ℕ
+given_by op = gives unset op
 
 -- with this many operands the operation has what it needs, and this many are taken and given, whatever the pools hold
 abbrev pub HasEffect : Op → ℕ → ℕ → ℕ → Type 0

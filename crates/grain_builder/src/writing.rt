@@ -2,7 +2,7 @@
 ghost use Rattle.std.specs.Prelude.{◌≡◌, ◌+◌, ◌-◌, ◌≤◌, OnOk, Some, false, slice_get};
 ghost use Rattle.grain_rules.specs.Flow.{Falls, Ends, Jumps, Branches};
 ghost use Rattle.grain_rules.specs.Rows.{flow_of};
-ghost use Rattle.grain_builder.specs.Fitting.{HasEffect, given, taken};
+ghost use Rattle.grain_builder.specs.Fitting.{HasEffect, given_by, taken_by};
 ghost use Rattle.grain_builder.specs.Assembler.{LeavesOperands, spot, AddsPlace};
 
 use crate::assembler::{Assembler, PlacedOp};
@@ -20,7 +20,7 @@ pub(crate) fn too_many(place: Place) -> CompileError {
 
 /// How many operands an operation takes and gives if no pool decides it.
 fn effect_of(op: &Op) -> (usize, usize)
-    ensures { result ≡ (taken op.now, given op.now) }
+    ensures { result ≡ (taken_by op.now, given_by op.now) }
 {
     let effect = Effect::of(op, &NoPools);
     (effect.takes as usize, effect.gives as usize)
@@ -33,9 +33,9 @@ impl Assembler {
     /// There are more operands than a chunk can declare, or the allocator refused.
     pub fn put(&mut self, place: Place, op: Op) -> Result<(), CompileError>
         requires falls { flow_of op ≡ Falls }
-        requires does { HasEffect op self.old.operands (taken op) (given op) }
-        requires room { self.old.frame.floor + taken op ≤ self.old.operands }
-        ensures leaves { OnOk result (LeavesOperands self.old self.new (self.old.operands - taken op + given op)) }
+        requires does { HasEffect op self.old.operands (taken_by op) (given_by op) }
+        requires room { self.old.frame.floor + taken_by op ≤ self.old.operands }
+        ensures leaves { OnOk result (LeavesOperands self.old self.new (self.old.operands - taken_by op + given_by op)) }
         ensures placed { OnOk result (AddsPlace self.old self.new place) }
     {
         let (takes, gives) = effect_of(&op);
@@ -55,8 +55,8 @@ impl Assembler {
     /// As [`Assembler::put`].
     pub fn stop(&mut self, place: Place, op: Op, left: usize) -> Result<(), CompileError>
         requires ends { flow_of op ≡ Ends }
-        requires does { HasEffect op self.old.operands (taken op) 0 }
-        requires room { self.old.frame.floor + taken op ≤ self.old.operands }
+        requires does { HasEffect op self.old.operands (taken_by op) 0 }
+        requires room { self.old.frame.floor + taken_by op ≤ self.old.operands }
         ensures leaves { OnOk result (LeavesOperands self.old self.new left) }
         ensures loose { OnOk result (self.new.fixed ≡ false) }
         ensures placed { OnOk result (AddsPlace self.old self.new place) }
@@ -97,10 +97,10 @@ impl Assembler {
     /// As [`Assembler::put`].
     pub fn branch(&mut self, place: Place, op: Op, label: u32) -> Result<(), CompileError>
         requires branches { flow_of op ≡ Branches label }
-        requires does { HasEffect op self.old.operands (taken op) 0 }
-        requires room { self.old.frame.floor + taken op ≤ self.old.operands }
-        requires there { slice_get self.old.labels label ≡ Some (spot (self.old.operands - taken op) self.old.frame) }
-        ensures leaves { OnOk result (LeavesOperands self.old self.new (self.old.operands - taken op)) }
+        requires does { HasEffect op self.old.operands (taken_by op) 0 }
+        requires room { self.old.frame.floor + taken_by op ≤ self.old.operands }
+        requires there { slice_get self.old.labels label ≡ Some (spot (self.old.operands - taken_by op) self.old.frame) }
+        ensures leaves { OnOk result (LeavesOperands self.old self.new (self.old.operands - taken_by op)) }
         ensures placed { OnOk result (AddsPlace self.old self.new place) }
     {
         let (takes, _) = effect_of(&op);

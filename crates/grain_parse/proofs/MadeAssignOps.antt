@@ -6,7 +6,7 @@ use Rattle.std.proofs.Math.ListN.{get_or-append}
 use Rattle.grain_pools.specs.declared.assign_op.AssignOp.{AssignOp}
 use Rattle.grain_parse.specs.Blanks.{ReadsText, unblanked}
 use Rattle.grain_parse.specs.Entries.{AreSameAssignOps, Enters, HasEntryAt, IsMadeOf, ReadsAssignOpIndex}
-use Rattle.grain_base.specs.Operators.{base_of, text_of}
+use Rattle.grain_base.specs.Operators.{base_operator_of, text_of}
 use Rattle.grain_parse.proofs.ReadNumbers.{text_again}
 use Rattle.grain_print.specs.Spellings.{spelling_at}
 
@@ -46,7 +46,7 @@ pub made_alike : (spelling : List ℕ) (names : List (String Global)) (one other
 made_alike spelling names one other made same = record {
   op_assign = ap spelling_at same.op_assign ∙ made.op_assign;
   op_assign_name = subst (HasEntryAt _ names) (sym same.op_assign_name) made.op_assign_name;
-  op = ap Some same.op ∙ made.op ∙ ap (λ parts. option_map (λ number. inr number) (base_of parts)) (sym same.op_assign);
+  op = ap Some same.op ∙ made.op ∙ ap (λ parts. option_map (λ number. inr number) (base_operator_of parts)) (sym same.op_assign);
   op_name = subst (λ parts. HasEntryAt (λ name. string_bytes name ≡ text_of parts) names one.op_name) (sym same.op) (subst (HasEntryAt _ names) (sym same.op_name) made.op_name);
 }
 

@@ -2,7 +2,7 @@
 use Rattle.std.specs.Prelude.{◌≡◌, ◌⊎◌, ℕ, List, String, Some, [], ◌∷◌, ◌++◌, option_map, slice_get, string_bytes, IsSomeAnd}
 use Rattle.std.specs.Global.{Global}
 use Rattle.std.proofs.Common.{inr}
-use Rattle.grain_base.specs.Operators.{base_of, text_of}
+use Rattle.grain_base.specs.Operators.{base_operator_of, text_of}
 use Rattle.grain_base.specs.Tokens.{token_parts}
 use Rattle.grain_base.specs.View.{content}
 use Rattle.grain_base.specs.declared.token.Token.{Token}
@@ -56,7 +56,7 @@ pub record AreSameAssignOps (one other : AssignOp) : Type 0 where
 pub record IsMadeOf (spelling : List ℕ) (names : List (String Global)) (assign_op : AssignOp) : Type 0 where
   pub op_assign : spelling_of assign_op.op_assign ≡ Some spelling
   pub op_assign_name : HasEntryAt (λ name. string_bytes name ≡ spelling) names assign_op.op_assign_name
-  pub op : Some (token_parts assign_op.op) ≡ option_map (λ number. inr number) (base_of (token_parts assign_op.op_assign))
+  pub op : Some (token_parts assign_op.op) ≡ option_map (λ number. inr number) (base_operator_of (token_parts assign_op.op_assign))
   pub op_name : HasEntryAt (λ name. string_bytes name ≡ text_of (token_parts assign_op.op)) names assign_op.op_name
 
 -- the spelling of an op-assignment comes, and one that is made of it is entered

@@ -10,7 +10,7 @@ use Rattle.std.specs.Str.{bytes_eq}
 use Rattle.std.proofs.lemmas.Slice.Eq.{bytes_eq-Decides}
 use Rattle.std.proofs.lemmas.List.FromFn.{get_or-range_with_len}
 use Rattle.std.proofs.lemmas.Option.{slice_get-get_or, slice_get-map, slice_get_within}
-use Rattle.grain_base.specs.Operators.{Row, first_with, operators, plain, row_at}
+use Rattle.grain_base.specs.Operators.{OperatorRow, first_with, operators, plain, row_at}
 use Rattle.grain_base.specs.Tokens.{TokenParts, token_parts}
 use Rattle.grain_base.specs.declared.token.Token.{Token}
 use Rattle.grain_print.specs.Spellings.{spelling_at, spellings}
@@ -51,11 +51,11 @@ unary_minus = refl
 pub spelled : (n : ℕ) → n < 39 → n ≢ 1 → n ≢ 3 → slice_get spellings n ≡ Some (row_at n).text
 unfolding spellings
 spelled n inside plus minus =
-    let texts : List (List ℕ) = map (λ (row : Row). row.text) operators in
+    let texts : List (List ℕ) = map (λ (row : OperatorRow). row.text) operators in
     let one : List (List ℕ) = set texts 1 (codes "unary+") in
     let many : length operators ≡ 39 = unfold operators in refl in
-    let long : n < length (set one 3 (codes "unary-")) = omega (arith, many, length-map operators (λ (row : Row). row.text), length-set texts 1 (codes "unary+"), length-set one 3 (codes "unary-")) in
-    slice_get-get_or spellings n [] long ∙ ap Some (get_or-set_other one 3 n (codes "unary-") [] minus ∙ get_or-set_other texts 1 n (codes "unary+") [] plus ∙ get_or-map (λ (row : Row). row.text) operators n (plain []) [] (omega (arith, many)))
+    let long : n < length (set one 3 (codes "unary-")) = omega (arith, many, length-map operators (λ (row : OperatorRow). row.text), length-set texts 1 (codes "unary+"), length-set one 3 (codes "unary-")) in
+    slice_get-get_or spellings n [] long ∙ ap Some (get_or-set_other one 3 n (codes "unary-") [] minus ∙ get_or-set_other texts 1 n (codes "unary+") [] plus ∙ get_or-map (λ (row : OperatorRow). row.text) operators n (plain []) [] (omega (arith, many)))
 
 plus_twice : (row_at 0).text ≡ (row_at 1).text
 unfolding operators
@@ -68,7 +68,7 @@ minus_twice = refl
 -- of two operators with one text the second isn't found
 not_second : (s : List ℕ) (n first second : ℕ) → (row_at first).text ≡ (row_at second).text → first < second → first_with s ≡ Some n → n ≢ second
 not_second s n first second same before e is =
-    let test : Row → Bool = λ row. bytes_eq row.text s in
+    let test : OperatorRow → Bool = λ row. bytes_eq row.text s in
     let found = position-Some test operators n (plain []) e in
     let passes : test (row_at first) ≡ true = ap (λ text. bytes_eq text s) same ∙ subst (λ m. test (row_at m) ≡ true) is found.1 in
     let fails : test (row_at first) ≡ false = found.2 first (omega arith) in
@@ -78,7 +78,7 @@ not_second s n first second same before e is =
 -- the spelling of an operator that is found by its text
 found_at : (s : List ℕ) (n : ℕ) → first_with s ≡ Some n → slice_get spellings n ≡ Some s
 found_at s n e =
-    let found = position-Some (λ (row : Row). bytes_eq row.text s) operators n (plain []) e in
+    let found = position-Some (λ (row : OperatorRow). bytes_eq row.text s) operators n (plain []) e in
     let many : length operators ≡ 39 = unfold operators in refl in
     spelled n (omega (arith, many)) (not_second s n 0 1 plus_twice (omega arith) e) (not_second s n 2 3 minus_twice (omega arith) e) ∙ ap Some (same_text (row_at n).text s (sym found.1))
 
@@ -92,7 +92,7 @@ text_found s (Some token) e = found_by s (first_with s) (token_parts token) refl
 
 missed : (s : List ℕ) (m : ℕ) → first_with s ≡ None → m < 39 → (row_at m).text ≡ s → ⊥
 missed s m none inside is =
-    let test : Row → Bool = λ row. bytes_eq row.text s in
+    let test : OperatorRow → Bool = λ row. bytes_eq row.text s in
     let many : length operators ≡ 39 = unfold operators in refl in
     let past : length operators ≤ position_or_len test operators = grind arith in
     let fails : test (row_at m) ≡ false = fails_before_first test operators m (plain []) (omega arith) in

@@ -2,7 +2,7 @@
 ghost use Rattle.std.specs.Prelude.{◌≡◌, ◌+◌, ◌-◌, ◌≤◌, IfOk, OnOk, Some, slice_get};
 ghost use Rattle.grain_rules.specs.Flow.{Falls};
 ghost use Rattle.grain_rules.specs.Rows.{flow_of};
-ghost use Rattle.grain_builder.specs.Fitting.{HasEffect, given, taken};
+ghost use Rattle.grain_builder.specs.Fitting.{HasEffect, given_by, taken_by};
 ghost use Rattle.grain_builder.specs.Assembler.{spot};
 ghost use Rattle.rhai_emit.specs.Loops.{count};
 ghost use Rattle.rhai_emit.specs.Rules.{IsWritten, AddsPlaces};
@@ -26,9 +26,9 @@ impl Emitter {
     /// [`Assembler::put`]: grain_builder::Assembler::put
     pub fn put(&mut self, place: Place, op: Op) -> Result<(), CompileError>
         requires falls { flow_of op ≡ Falls }
-        requires does { HasEffect op self.old.code.operands (taken op) (given op) }
-        requires room { self.old.code.frame.floor + taken op ≤ self.old.code.operands }
-        ensures written { OnOk result (IsWritten self.old self.new (self.old.code.operands - taken op + given op)) }
+        requires does { HasEffect op self.old.code.operands (taken_by op) (given_by op) }
+        requires room { self.old.code.frame.floor + taken_by op ≤ self.old.code.operands }
+        ensures written { OnOk result (IsWritten self.old self.new (self.old.code.operands - taken_by op + given_by op)) }
         ensures placed { OnOk result (AddsPlaces self.old self.new (here place)) }
     {
         check_indices(place, &op)?;

@@ -1,10 +1,6 @@
-//! Calls that the embedding program does while the run waits.
-ghost use Rattle.std.specs.Prelude.{◌≡◌};
+//! A call that the embedding program does while the run waits.
 
-use crate::fault::{Failure, Fault};
-use crate::script::Script;
-use crate::world::World;
-use rhai_values::{Cause, Lent, Value};
+use rhai_values::{Lent, Value};
 
 /// A call that the embedding program does while the run waits.
 #[derive(Drop)]
@@ -34,71 +30,5 @@ impl Asked {
             Some(_) => self.arguments.first_mut(),
             None => None,
         }
-    }
-}
-
-impl<W: World + Drop> Script<W> {
-    /// The call for which the run waits, if it does.
-    #[must_use]
-    pub fn asked(&self) -> Option<&Asked> {
-        self.asked.as_ref()
-    }
-
-    /// The call for which the run waits, if it does, to change its receiver.
-    pub fn asked_mut(&mut self) -> Option<&mut Asked> {
-        self.asked.as_mut()
-    }
-
-    /// Ends the call for which the run waits, with the value for [`answer`](grain_machine::Runnable::answer). Its receiver goes back
-    /// where it was taken from.
-    ///
-    /// # Errors
-    /// The fault of the call, for [`fail`](grain_machine::Runnable::fail): the limits don't allow the value or the receiver, or
-    /// the receiver can't go back.
-    pub fn answered(&mut self, value: Value) -> Result<Value, Fault>
-        ensures { IfErr result (λ fault. fault.at ≡ self.old.at) }
-    {
-        let returned = self.return_receiver();
-        let allowed = self.allowed(&value);
-        match (returned, allowed) {
-            (Ok(()), Ok(())) => Ok(value),
-            (Err(cause), _) | (Ok(()), Err(cause)) => Err(self.failed(
-                self.at,
-                Failure::from(cause),
-            )),
-        }
-    }
-
-    /// The fault of the call for which the run waits, for [`fail`](grain_machine::Runnable::fail). Its receiver goes back where it was
-    /// taken from. If it can't, that is the cause.
-    pub fn failed_call(&mut self, cause: Cause) -> Fault
-        ensures { result.at ≡ self.old.at }
-    {
-        let cause = match self.return_receiver() {
-            Ok(()) => cause,
-            Err(cause) => cause,
-        };
-        self.failed(self.at, Failure::from(cause))
-    }
-
-    /// Puts the receiver back where it was taken from.
-    fn return_receiver(&mut self) -> Result<(), Cause>
-        ensures { self.new.at ≡ self.old.at }
-    {
-        let Some(asked) = self.asked.take() else {
-            return Ok(());
-        };
-        let Asked {
-            name: _name,
-            mut arguments,
-            lent,
-        } = asked;
-        let Some(receiver) = arguments.first_mut() else {
-            return Ok(());
-        };
-        let receiver = receiver.take();
-        let allowed = self.allowed(&receiver);
-        self.variables.give_back(receiver, lent)?;
-        allowed
     }
 }

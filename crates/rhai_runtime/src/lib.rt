@@ -7,6 +7,7 @@
 #![tactic(auto)]
 
 mod access;
+mod answering;
 mod asked;
 mod calls;
 mod chains;
