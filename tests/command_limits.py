@@ -53,15 +53,6 @@ def check_full_text(grain):
         expect(status == 1 and errors.startswith(b"error: standard output: "), f"{words} to /dev/full ends with {status}: {errors!r}")
 
 
-def check_memory(grain):
-    """What is written as it is made isn't held: the memory that a longer text takes is less than the text."""
-    short, long = (grain.write(f"{n}.grain", grain.done("parse", "-", given=b"tick\n" * n + b"return\n")) for n in (1000, 100_000))
-    for words, share in ((["list", "--json"], 1), (["dump", "-x"], 0.3), (["dump", "-x", "--json"], 0.3), (["flow"], 0.6)):
-        more = grain.peak(*words, long) - grain.peak(*words, short)
-        size = len(grain.done(*words, long))
-        expect(more < share * size, f"{words} takes {more} bytes more for a text of {size} bytes")
-
-
 def check_positions(grain):
     """What a number in a text has `parse` allocate is bounded by the text, and each program comes back."""
     expect(b"number too large" in grain.run("parse", "-", given=b".positions 67108838")[2], "many positions of a short text are read")
@@ -98,7 +89,7 @@ def main():
         sys.exit(__doc__)
     with tempfile.TemporaryDirectory() as folder:
         grain = Program(sys.argv[1], folder)
-        for check in (check_version, check_full, check_full_text, check_memory, check_positions, check_protected, check_growth):
+        for check in (check_version, check_full, check_full_text, check_positions, check_protected, check_growth):
             check(grain)
     print("limits of grain: well")
 

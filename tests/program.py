@@ -1,5 +1,4 @@
 """Calls a built program in a scratch folder, for tests that are no transcripts."""
-import os
 import pathlib
 import subprocess
 import sys
@@ -19,14 +18,6 @@ class Program:
         words = [self.program, *arguments]
         ran = subprocess.run(words, cwd=self.folder, input=given, stdout=to, stderr=subprocess.PIPE, timeout=120, **more)
         return ran.returncode, ran.stdout, ran.stderr
-
-    def peak(self, *arguments):
-        """How many bytes of memory it takes at most, its output apart."""
-        with subprocess.Popen([self.program, *arguments], cwd=self.folder, stdin=subprocess.DEVNULL, stdout=subprocess.DEVNULL) as ran:
-            _, status, usage = os.wait4(ran.pid, 0)
-            ran.returncode = os.waitstatus_to_exitcode(status)
-        expect(ran.returncode == 0, f"{arguments} ends with {ran.returncode}")
-        return usage.ru_maxrss * 1024
 
     def done(self, *arguments, given=b""):
         """What came on standard output of what has to be done."""
