@@ -172,7 +172,16 @@ impl Chunks {
     }
 }
 
-/// What the chunks declare: those at these places their depth, the others what they declare already.
+/// Has the chunks with these indices declare their depths.
+fn put_depths(stacks: &mut [u16], automatic: &[usize], depths: &[u16]) {
+    for index in automatic {
+        if let (Some(stack), Some(depth)) = (stacks.get_mut(*index), depths.get(*index)) {
+            *stack = *depth;
+        }
+    }
+}
+
+/// What the chunks declare: those with these indices their depth, the others what they declare already.
 ///
 /// # Errors
 /// If the allocator refuses the list.
@@ -188,10 +197,6 @@ pub(crate) fn stacks_of(
     for chunk in chunks {
         stacks.push(chunk.max_stack())?;
     }
-    for place in automatic {
-        if let (Some(stack), Some(depth)) = (stacks.get_mut(*place), depths.get(*place)) {
-            *stack = *depth;
-        }
-    }
+    put_depths(&mut stacks, automatic, depths);
     Ok(stacks)
 }

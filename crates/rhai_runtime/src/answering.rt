@@ -1,5 +1,5 @@
 //! Answers to calls that the embedding program does while the run waits.
-ghost use Rattle.std.specs.Prelude.{◌≡◌};
+ghost use Rattle.std.specs.Prelude.{◌≡◌, IfErr};
 
 use crate::asked::Asked;
 use crate::fault::{Failure, Fault};
