@@ -42,8 +42,10 @@ impl Parsed {
             automatic,
             caps,
         } = self;
-        let program = with_depths(alloc, program, &automatic)?;
-        Ok(declaring(program, caps))
+        match with_depths(alloc, program, &automatic) {
+            Ok(program) => Ok(declaring(program, caps)),
+            Err(error) => Err(error),
+        }
     }
 }
 

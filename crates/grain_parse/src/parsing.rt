@@ -148,7 +148,10 @@ pub fn read(alloc: Global, text: &str) -> Result<Parsed, ParseError>
 pub fn parse(alloc: Global, text: &str) -> Result<Program, ParseError>
     ensures { IfErr result (IsPlacedError (lines text.now)) }
 {
-    read(alloc, text)?.finish(alloc)
+    match read(alloc, text) {
+        Ok(parsed) => parsed.finish(alloc),
+        Err(error) => Err(error),
+    }
 }
 
 /// The program of an assembly text, verified.

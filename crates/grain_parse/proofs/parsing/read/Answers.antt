@@ -1,0 +1,5 @@
+use Rattle.std.specs.Str.Lines.{lines}
+use Rattle.grain_parse.proofs.parsing.read.Goals as goal
+
+pub returns-in-Ok : goal.returns-in-Ok
+returns-in-Ok c = c.finish.ensures (lines c.args.text.now)
