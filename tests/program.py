@@ -13,10 +13,10 @@ class Program:
     def __init__(self, program, folder):
         self.program, self.folder = str(pathlib.Path(program).resolve()), pathlib.Path(folder)
 
-    def run(self, *arguments, given=b"", to=subprocess.PIPE, **more):
+    def run(self, *arguments, given=b"", **more):
         """The status, and what came on standard output and standard error."""
         words = [self.program, *arguments]
-        ran = subprocess.run(words, cwd=self.folder, input=given, stdout=to, stderr=subprocess.PIPE, timeout=120, **more)
+        ran = subprocess.run(words, cwd=self.folder, input=given, stdout=subprocess.PIPE, stderr=subprocess.PIPE, timeout=120, **more)
         return ran.returncode, ran.stdout, ran.stderr
 
     def done(self, *arguments, given=b""):

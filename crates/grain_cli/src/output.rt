@@ -4,7 +4,7 @@
 use crate::failure::Failure;
 use std::alloc::{AllocError, Global};
 use std::fs::{File, Metadata, OpenOptions};
-use std::io::{ErrorKind, IsTerminal, Stdout, Write};
+use std::io::{ErrorKind, IsTerminal, Write};
 use std::{fs, io};
 
 /// The path that means standard input or output.
@@ -27,7 +27,7 @@ struct Replacing {
 #[derive(Drop)]
 enum Target {
     /// To standard output.
-    Standard(Stdout),
+    Standard,
     /// Into what is there: a device, a pipe.
     There(File),
     /// Into a new file.
@@ -157,7 +157,7 @@ impl Output {
         let alloc = rt.alloc();
         let Some(path) = path.filter(|path| *path != STANDARD) else {
             return Ok(Output {
-                target: Target::Standard(rt.stdout()),
+                target: Target::Standard,
                 path: String::new(alloc),
             });
         };
@@ -185,20 +185,15 @@ impl Output {
     ///
     /// # Errors
     /// They can't be written.
-    pub fn write_bytes(&mut self, rt: &HostRuntime, bytes: &[u8]) -> Result<(), Failure> {
-        match self.write_all(bytes) {
+    pub fn write(&mut self, rt: &HostRuntime, bytes: &[u8]) -> Result<(), Failure> {
+        let written = match &mut self.target {
+            Target::Standard => return write_standard(rt, bytes),
+            Target::There(file) => file.write_all(bytes),
+            Target::New(new) => new.file.write_all(bytes),
+        };
+        match written {
             Ok(()) => Ok(()),
-            Err(error) => Err(self.failed(rt, error)),
-        }
-    }
-
-    /// Why it could not be written, or what was to be written could not be made.
-    pub fn failed(&self, rt: &HostRuntime, error: io::Error) -> Failure {
-        match &self.target {
-            Target::There(_) | Target::New(_) if error.kind() != ErrorKind::OutOfMemory => {
-                Failure::of(rt.alloc(), self.path.as_str(), error)
-            }
-            _ => Failure::of_output(error),
+            Err(error) => Err(Failure::of(rt.alloc(), self.path.as_str(), error)),
         }
     }
 
@@ -222,44 +217,18 @@ impl Output {
         let _removed = fs::remove_file(rt, new.temporary.as_str());
         put
     }
-
-    /// Ends the output as [`Output::end`] does, if what was done ended so.
-    ///
-    /// # Errors
-    /// That of what was done, or the file can't be written.
-    pub fn end_written(self, rt: &HostRuntime, written: io::Result<()>) -> Result<(), Failure> {
-        let done = match written {
-            Ok(()) => Ok(()),
-            Err(error) => Err(self.failed(rt, error)),
-        };
-        self.end(rt, done)
-    }
-}
-
-/// What is written goes to the file, or to standard output.
-impl Write for Output {
-    fn write(&mut self, buf: &[u8]) -> io::Result<usize> {
-        match &mut self.target {
-            Target::Standard(out) => out.write(buf),
-            Target::There(file) => file.write(buf),
-            Target::New(new) => new.file.write(buf),
-        }
-    }
-
-    fn flush(&mut self) -> io::Result<()> {
-        match &mut self.target {
-            Target::Standard(out) => out.flush(),
-            Target::There(file) => file.flush(),
-            Target::New(new) => new.file.flush(),
-        }
-    }
 }
 
 /// Writes a whole output.
 fn write_whole(rt: &HostRuntime, output: Output, bytes: &[u8]) -> Result<(), Failure> {
     let mut output = output;
-    let done = output.write_bytes(rt, bytes);
+    let done = output.write(rt, bytes);
     output.end(rt, done)
+}
+
+/// Writes the bytes of a text to a file, or to standard output if none is given.
+pub fn write_text(rt: &HostRuntime, path: Option<&str>, text: &[u8]) -> Result<(), Failure> {
+    write_whole(rt, Output::open(rt, path)?, text)
 }
 
 /// Writes a binary file, or to standard output if none is given and that is no terminal.
@@ -278,8 +247,8 @@ pub fn write_both(
         Ok(other) => other,
         Err(failure) => return one.end(rt, Err(failure)),
     };
-    let done = match one.write_bytes(rt, bytes) {
-        Ok(()) => other.write_bytes(rt, other_bytes),
+    let done = match one.write(rt, bytes) {
+        Ok(()) => other.write(rt, other_bytes),
         Err(failure) => Err(failure),
     };
     let done = one.end(rt, done);

@@ -1,26 +1,23 @@
 //! What is shown of a file.
 
-use grain::{Program, Sidecar};
-use grain_file::{Item, Part};
-use std::io;
-use std::ops::Range;
+use grain_file::Part;
 
 /// What a file is of.
-#[derive(Clone, Copy)]
-pub enum Content<'a> {
+#[derive(Clone, Copy, Debug, PartialEq, Eq)]
+pub enum Kind {
     /// A program.
-    Program(&'a Program),
+    Program,
     /// The positions of a program.
-    Sidecar(&'a Sidecar),
+    Sidecar,
 }
 
-impl Content<'_> {
-    /// What the kind of the file is called.
+impl Kind {
+    /// What the kind is called.
     #[must_use]
-    pub fn kind(self) -> &'static str {
+    pub fn name(self) -> &'static str {
         match self {
-            Content::Program(_) => "program",
-            Content::Sidecar(_) => "sidecar",
+            Kind::Program => "program",
+            Kind::Sidecar => "sidecar",
         }
     }
 }
@@ -36,12 +33,6 @@ pub struct Piece {
     pub text: String,
 }
 
-/// What takes the pieces of a section, one after another, so that no more than one is held.
-pub(crate) trait Pieces {
-    /// Takes a piece.
-    fn take_piece(&mut self, piece: &Piece) -> io::Result<()>;
-}
-
 /// A part of a file with all of its items.
 #[derive(Debug, Drop)]
 pub struct Section {
@@ -53,19 +44,15 @@ pub struct Section {
     pub end: usize,
     /// What it has, in a few words: for a list how many items.
     pub summary: String,
-    /// Which items of the outline are its own.
-    pub items: Range<usize>,
+    /// Its pieces, where these are wanted.
+    pub pieces: Vec<Piece>,
 }
 
 /// The sections of a file, in their order.
-#[derive(Drop)]
-pub struct Dump<'a> {
+#[derive(Debug, Drop)]
+pub struct Dump {
     /// What the file is of.
-    pub content: Content<'a>,
+    pub kind: Kind,
     /// Its sections.
     pub sections: Vec<Section>,
-    /// Its outline.
-    pub(crate) items: Vec<Item>,
-    /// Whether the pieces of the sections are wanted.
-    pub(crate) with_pieces: bool,
 }

@@ -1,12 +1,11 @@
 //! The sections of a file, by its outline.
 
-use crate::instructions::give_code;
+use crate::instructions::push_code;
 use crate::meaning::{write_part, write_sidecar_part};
-use crate::model::{Content, Dump, Piece, Pieces, Section};
+use crate::model::{Dump, Kind, Piece, Section};
 use grain::{Program, Sidecar};
 use grain_file::{Item, Part, WriteError, outline, outline_sidecar};
 use std::alloc::{AllocError, Global};
-use std::io;
 
 /// The text of a part of a program.
 fn part_text(alloc: Global, program: &Program, part: Part) -> Result<String, AllocError> {
@@ -22,42 +21,37 @@ fn sidecar_text(alloc: Global, sidecar: &Sidecar, part: Part) -> Result<String, 
     Ok(text)
 }
 
-/// What a part of a file spells.
-fn text_of(alloc: Global, content: Content<'_>, part: Part) -> Result<String, AllocError> {
-    match content {
-        Content::Program(program) => part_text(alloc, program, part),
-        Content::Sidecar(sidecar) => sidecar_text(alloc, sidecar, part),
+/// A section that begins with an item.
+fn section_of(alloc: Global, item: &Item, summary: String) -> Section {
+    Section {
+        part: item.part,
+        start: item.start,
+        end: item.end,
+        summary,
+        pieces: Vec::new(alloc),
     }
 }
 
-/// The sections of a file with these items.
-fn sections_of(
+/// Appends the pieces of an item: the instructions of the code, or the item itself.
+fn push_pieces(
     alloc: Global,
-    content: Content<'_>,
-    items: &[Item],
-) -> Result<Vec<Section>, AllocError> {
-    let mut sections: Vec<Section> = Vec::new(alloc);
-    for (index, item) in items.iter().enumerate() {
-        let behind = index.saturating_add(1);
-        if item.part.index().is_none() {
-            sections.push(Section {
-                part: item.part,
-                start: item.start,
-                end: item.end,
-                summary: text_of(alloc, content, item.part)?,
-                items: index..behind,
-            })?;
-        }
-        if let Some(section) = sections.last_mut() {
-            section.end = item.end;
-            section.items.end = behind;
-        }
+    pieces: &mut Vec<Piece>,
+    program: &Program,
+    item: &Item,
+) -> Result<(), AllocError> {
+    if item.part == Part::Code {
+        return push_code(alloc, pieces, program, item);
     }
-    Ok(sections)
+    pieces.push(Piece {
+        start: item.start,
+        end: item.end,
+        text: part_text(alloc, program, item.part)?,
+    })?;
+    Ok(())
 }
 
-/// The sections of the file of a program, with their pieces if these are wanted. It takes memory for the outline of the file and
-/// a text of each section. The pieces are made as they are written.
+/// The sections of the file of a program, and their pieces if these are wanted. It takes memory for a text of each section
+/// and piece.
 ///
 /// # Errors
 /// As [`write`](grain_file::write): `Unkept` if the program has no file.
@@ -65,14 +59,23 @@ pub fn program_dump(
     alloc: Global,
     program: &Program,
     with_pieces: bool,
-) -> Result<Dump<'_>, WriteError> {
-    let content = Content::Program(program);
-    let items = outline(alloc, program)?;
+) -> Result<Dump, WriteError> {
+    let mut sections: Vec<Section> = Vec::new(alloc);
+    for item in &outline(alloc, program)? {
+        if item.part.index().is_none() {
+            let summary = part_text(alloc, program, item.part)?;
+            sections.push(section_of(alloc, item, summary))?;
+        }
+        if let Some(section) = sections.last_mut() {
+            section.end = item.end;
+            if with_pieces {
+                push_pieces(alloc, &mut section.pieces, program, item)?;
+            }
+        }
+    }
     Ok(Dump {
-        content,
-        sections: sections_of(alloc, content, &items)?,
-        items,
-        with_pieces,
+        kind: Kind::Program,
+        sections,
     })
 }
 
@@ -84,41 +87,22 @@ pub fn sidecar_dump(
     alloc: Global,
     sidecar: &Sidecar,
     with_pieces: bool,
-) -> Result<Dump<'_>, AllocError> {
-    let content = Content::Sidecar(sidecar);
-    let items = outline_sidecar(alloc, sidecar)?;
-    Ok(Dump {
-        content,
-        sections: sections_of(alloc, content, &items)?,
-        items,
-        with_pieces,
-    })
-}
-
-impl Dump<'_> {
-    /// Gives the pieces of a section, if they are wanted: the instructions of the code, or each item.
-    pub(crate) fn give_pieces<P: Pieces>(
-        &self,
-        alloc: Global,
-        section: &Section,
-        pieces: &mut P,
-    ) -> io::Result<()> {
-        if !self.with_pieces {
-            return Ok(());
+) -> Result<Dump, AllocError> {
+    let mut sections: Vec<Section> = Vec::new(alloc);
+    for item in &outline_sidecar(alloc, sidecar)? {
+        let summary = sidecar_text(alloc, sidecar, item.part)?;
+        let mut section = section_of(alloc, item, summary);
+        if with_pieces {
+            section.pieces.push(Piece {
+                start: item.start,
+                end: item.end,
+                text: sidecar_text(alloc, sidecar, item.part)?,
+            })?;
         }
-        let items = self.items.get(section.items.start..section.items.end);
-        for item in items.unwrap_or_default() {
-            match self.content {
-                Content::Program(program) if item.part == Part::Code => {
-                    give_code(alloc, pieces, program, item)?;
-                }
-                content => pieces.take_piece(&Piece {
-                    start: item.start,
-                    end: item.end,
-                    text: text_of(alloc, content, item.part)?,
-                })?,
-            }
-        }
-        Ok(())
+        sections.push(section)?;
     }
+    Ok(Dump {
+        kind: Kind::Sidecar,
+        sections,
+    })
 }

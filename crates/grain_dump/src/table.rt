@@ -1,10 +1,7 @@
 //! Sections as a table.
 
-use crate::model::{Dump, Piece, Pieces, Section};
-use grain_stream::TextStream;
+use crate::model::{Dump, Piece, Section};
 use std::alloc::{AllocError, Global};
-use std::io;
-use std::io::Write;
 
 /// How many bytes a line has.
 const BYTES_IN_LINE: usize = 16;
@@ -55,59 +52,29 @@ fn text_of<'a>(section: &Section, piece: &'a Piece) -> &'a str {
     }
 }
 
-/// Appends a section without its pieces.
-fn write_section_line(out: &mut String, section: &Section) -> Result<(), AllocError> {
+fn write_section(out: &mut String, section: &Section, bytes: &[u8]) -> Result<(), AllocError> {
     let start = section.start;
     let size = section.end.saturating_sub(section.start);
     let name = section.part.name();
     let summary = &section.summary;
-    write!(out, "{start:>10} {size:>10}  {name:<14}  {summary}\n")
-}
-
-/// Writes the pieces of a section, as lines.
-#[derive(Drop)]
-struct Lines<'a, 'b, W> {
-    stream: &'a mut TextStream<'b, W>,
-    section: &'a Section,
-    bytes: &'a [u8],
-}
-
-impl<W: Write> Pieces for Lines<'_, '_, W> {
-    fn take_piece(&mut self, piece: &Piece) -> io::Result<()> {
-        let text = text_of(self.section, piece);
-        write_piece(&mut self.stream.text, piece, text, self.bytes)?;
-        self.stream.spill()
+    write!(out, "{start:>10} {size:>10}  {name:<14}  {summary}\n")?;
+    for piece in &section.pieces {
+        write_piece(out, piece, text_of(section, piece), bytes)?;
     }
+    Ok(())
 }
 
-fn write_section<W: Write>(
-    alloc: Global,
-    stream: &mut TextStream<'_, W>,
-    dump: &Dump<'_>,
-    section: &Section,
-    bytes: &[u8],
-) -> io::Result<()> {
-    write_section_line(&mut stream.text, section)?;
-    let mut lines = Lines {
-        stream,
-        section,
-        bytes,
-    };
-    dump.give_pieces(alloc, section, &mut lines)
-}
-
-impl Dump<'_> {
+impl Dump {
     /// A line for each section: its offset, its size, its name and its summary. Below it are its pieces, each with its offset,
     /// its bytes in hexadecimal and what they spell. The bytes are those of the file.
     ///
     /// # Errors
-    /// It can't be written, or memory was refused.
-    pub fn write_text<W: Write>(&self, alloc: Global, bytes: &[u8], out: &mut W) -> io::Result<()> {
-        let mut stream = TextStream::new(alloc, out);
-        stream.text.push_str("    offset       size  section\n")?;
+    /// Where a growth was refused.
+    pub fn text(&self, alloc: Global, bytes: &[u8]) -> Result<String, AllocError> {
+        let mut out = String::from_str(alloc, "    offset       size  section\n")?;
         for section in &self.sections {
-            write_section(alloc, &mut stream, self, section, bytes)?;
+            write_section(&mut out, section, bytes)?;
         }
-        stream.finish()
+        Ok(out)
     }
 }

@@ -2,10 +2,7 @@
 
 use crate::edges::{Edge, EdgeKind};
 use crate::graph::{Graph, Node, Standing};
-use grain_stream::TextStream;
 use std::alloc::{AllocError, Global};
-use std::io;
-use std::io::Write;
 
 /// Appends text in quotes, in which a quote and a backslash are escaped.
 fn push_quoted(piece: &str, out: &mut String) -> Result<(), AllocError> {
@@ -83,8 +80,11 @@ fn push_wrong(graph: &Graph, out: &mut String) -> Result<(), AllocError> {
     push_quoted(&said, out)
 }
 
-/// Appends what comes before the nodes.
-fn push_front(graph: &Graph, out: &mut String) -> Result<(), AllocError> {
+/// Appends the graph as text for Graphviz. Its nodes are called `n` and their address. It takes time by the length of the text.
+///
+/// # Errors
+/// [`AllocError`] where memory was refused.
+pub fn write_dot(graph: &Graph, out: &mut String) -> Result<(), AllocError> {
     out.push_str("digraph ")?;
     push_quoted(&graph.title, out)?;
     out.push_str(" {\n  node [shape=box, fontname=monospace];\n")?;
@@ -93,23 +93,11 @@ fn push_front(graph: &Graph, out: &mut String) -> Result<(), AllocError> {
         push_wrong(graph, out)?;
         out.push_str(";\n")?;
     }
-    Ok(())
-}
-
-/// Writes the graph as text for Graphviz. Its nodes are called `n` and their address. It takes time by the length of the text.
-///
-/// # Errors
-/// It can't be written, or memory was refused.
-pub fn write_dot<W: Write>(graph: &Graph, stream: &mut TextStream<'_, W>) -> io::Result<()> {
-    push_front(graph, &mut stream.text)?;
     for node in &graph.nodes {
-        push_node(node, &mut stream.text)?;
-        stream.spill()?;
+        push_node(node, out)?;
     }
     for edge in &graph.edges {
-        push_edge(&graph.nodes, edge, &mut stream.text)?;
-        stream.spill()?;
+        push_edge(&graph.nodes, edge, out)?;
     }
-    stream.text.push_str("}\n")?;
-    Ok(())
+    out.push_str("}\n")
 }

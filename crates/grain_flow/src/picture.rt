@@ -8,10 +8,7 @@ use crate::edges::{Edge, EdgeKind};
 use crate::graph::{Graph, Node, Standing};
 use crate::labels::columns;
 use crate::lanes::Lanes;
-use grain_stream::TextStream;
 use std::alloc::{AllocError, Global};
-use std::io;
-use std::io::Write;
 
 /// From the middle of one row to that of the next.
 const ROW: usize = 34;
@@ -196,18 +193,17 @@ fn push_edge(edge: &Edge, lanes: &Lanes, at: Columns, out: &mut String) -> Resul
     push_jump(side, side.saturating_sub(shift), from, to, pen, out)
 }
 
-/// Writes the edges that are on a path to the flaw, or all others.
-fn write_edges<W: Write>(
+/// Appends the edges that are on a path to the flaw, or all others.
+fn push_edges(
     graph: &Graph,
     lanes: &Lanes,
     at: Columns,
     on_path: bool,
-    stream: &mut TextStream<'_, W>,
-) -> io::Result<()> {
+    out: &mut String,
+) -> Result<(), AllocError> {
     for edge in &graph.edges {
         if edge.is_on_path == on_path {
-            push_edge(edge, lanes, at, &mut stream.text)?;
-            stream.spill()?;
+            push_edge(edge, lanes, at, out)?;
         }
     }
     Ok(())
@@ -265,31 +261,25 @@ fn push_lines(lines: &[String], x: usize, top: usize, out: &mut String) -> Resul
     Ok(())
 }
 
-/// Writes a picture of the graph as SVG. Addresses run down the page, each with its instruction and the state there. Jumps are at the
+/// Appends a picture of the graph as SVG. Addresses run down the page, each with its instruction and the state there. Jumps are at the
 /// left, those of handlers dashed and blue, and the path to a flaw is red. It takes time by the square of the jumps.
 ///
 /// # Errors
-/// It can't be written, or memory was refused.
-pub fn write_svg<W: Write>(
-    alloc: Global,
-    graph: &Graph,
-    stream: &mut TextStream<'_, W>,
-) -> io::Result<()> {
+/// [`AllocError`] where memory was refused.
+pub fn write_svg(alloc: Global, graph: &Graph, out: &mut String) -> Result<(), AllocError> {
     let lanes = Lanes::of(alloc, graph.nodes.len(), &graph.edges)?;
     let at = Columns::of(graph, lanes.count());
     let letters = at.width.saturating_sub(at.left).wrapping_div(7);
     let lines = lines_of(alloc, graph, letters)?;
     let below = middle(graph.nodes.len());
     let height = lines.len().saturating_mul(LINE).saturating_add(below);
-    begin(at.width, height, &graph.title, &mut stream.text)?;
-    push_headings(graph, at, &mut stream.text)?;
+    begin(at.width, height, &graph.title, out)?;
+    push_headings(graph, at, out)?;
     for (row, node) in graph.nodes.iter().enumerate() {
-        push_node(node, row, at, &mut stream.text)?;
-        stream.spill()?;
+        push_node(node, row, at, out)?;
     }
-    write_edges(graph, &lanes, at, false, stream)?;
-    write_edges(graph, &lanes, at, true, stream)?;
-    push_lines(&lines, at.left.saturating_sub(10), below, &mut stream.text)?;
-    stream.text.push_str("</svg>\n")?;
-    Ok(())
+    push_edges(graph, &lanes, at, false, out)?;
+    push_edges(graph, &lanes, at, true, out)?;
+    push_lines(&lines, at.left.saturating_sub(10), below, out)?;
+    out.push_str("</svg>\n")
 }

@@ -6,6 +6,7 @@ use crate::object::write_json;
 use crate::text::write_text;
 use grain_lines::{Summary, is_case, without_return};
 use grain_listing::Paint;
+use json::Writer;
 use std::alloc::{AllocError, Global};
 use std::io::{BufRead, Error, ErrorKind, Write};
 
@@ -33,20 +34,22 @@ fn text_bytes(alloc: Global, paint: Paint, listing: &Listing) -> Result<Vec<u8>,
     Ok(text.into_bytes())
 }
 
-/// A listing as a line of JSON.
-fn json_bytes(alloc: Global, listing: &Listing) -> Result<Vec<u8>, Failure> {
-    let mut line = Vec::new(alloc);
-    write_json(alloc, listing, &mut line).map_err(Failure::of_write)?;
-    Ok(line)
+/// A listing as one object of JSON on a line of its own.
+fn json_bytes(alloc: Global, listing: &Listing) -> Result<Vec<u8>, AllocError> {
+    let mut json = Writer::new(Vec::new(alloc));
+    write_json(alloc, listing, &mut json)?;
+    let mut bytes = json.into_inner();
+    bytes.push(b'\n')?;
+    Ok(bytes)
 }
 
-/// A listing as it is written: whole, so that none is written in part if memory is refused.
+/// A listing as it is written.
 ///
 /// # Errors
-/// [`Failure::Memory`] if memory was refused.
-fn listing_bytes(alloc: Global, form: Form, listing: &Listing) -> Result<Vec<u8>, Failure> {
+/// [`AllocError`] if memory was refused.
+fn listing_bytes(alloc: Global, form: Form, listing: &Listing) -> Result<Vec<u8>, AllocError> {
     match form {
-        Form::Text(paint) => Ok(text_bytes(alloc, paint, listing)?),
+        Form::Text(paint) => text_bytes(alloc, paint, listing),
         Form::Json => json_bytes(alloc, listing),
     }
 }

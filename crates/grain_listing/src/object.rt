@@ -11,11 +11,8 @@ use grain_base::Position;
 use grain_code::{Chunk, Flow, Op};
 use grain_explain::{ExplainedChunk, LinkedBase, Refusal as ExplainedRefusal, Row};
 use grain_rules::{Effect, VerifyError};
-use grain_stream::JsonStream;
 use json::Writer;
 use std::alloc::{AllocError, Global};
-use std::io;
-use std::io::Write;
 
 /// Those of what has no rows.
 const NO_HANDLERS: Handlers<'static> = Handlers {
@@ -105,21 +102,17 @@ fn write_state(handlers: Handlers<'_>, row: &Row, json: &mut Writer) -> Result<(
 }
 
 /// Writes a path, the chunk's entry first.
-fn write_path<W: Write>(
+fn write_path(
     name: &str,
     handlers: Handlers<'_>,
     path: &[Row],
-    stream: &mut JsonStream<'_, W>,
-) -> io::Result<()> {
-    begin_array(name, &mut stream.json)?;
-    for (index, row) in path.iter().rev().enumerate() {
-        if index != 0 {
-            stream.next_value()?;
-        }
-        write_state(handlers, row, &mut stream.json)?;
+    json: &mut Writer,
+) -> Result<(), AllocError> {
+    begin_array(name, json)?;
+    for row in path.iter().rev() {
+        write_state(handlers, row, json)?;
     }
-    stream.json.end_array()?;
-    Ok(())
+    json.end_array()
 }
 
 /// Writes the state at an instruction, and from where it is reached.
@@ -225,63 +218,54 @@ fn write_sentence(
 }
 
 /// Writes why something is refused.
-fn write_refusal<W: Write>(
+fn write_refusal(
     alloc: Global,
     error: &VerifyError,
     handlers: Handlers<'_>,
     path: &[Row],
     other: &[Row],
-    stream: &mut JsonStream<'_, W>,
-) -> io::Result<()> {
-    begin_object("refusal", &mut stream.json)?;
-    write_error(alloc, error, &mut stream.json)?;
-    write_sentence(alloc, error, path, other, &mut stream.json)?;
-    write_words("rule", rule(error), &mut stream.json)?;
-    write_path("path", handlers, path, stream)?;
-    write_path("other_path", handlers, other, stream)?;
-    stream.json.end_object()?;
-    Ok(())
+    json: &mut Writer,
+) -> Result<(), AllocError> {
+    begin_object("refusal", json)?;
+    write_error(alloc, error, json)?;
+    write_sentence(alloc, error, path, other, json)?;
+    write_words("rule", rule(error), json)?;
+    write_path("path", handlers, path, json)?;
+    write_path("other_path", handlers, other, json)?;
+    json.end_object()
 }
 
 /// Writes why a chunk is refused, if it is.
-fn write_chunk_refusal<W: Write>(
+fn write_chunk_refusal(
     alloc: Global,
     handlers: Handlers<'_>,
     refusal: &Option<ExplainedRefusal>,
-    stream: &mut JsonStream<'_, W>,
-) -> io::Result<()> {
+    json: &mut Writer,
+) -> Result<(), AllocError> {
     match refusal {
         Some(ExplainedRefusal { error, way, other }) => {
-            write_refusal(alloc, error, handlers, way, other, stream)
+            write_refusal(alloc, error, handlers, way, other, json)
         }
-        None => {
-            write_null("refusal", &mut stream.json)?;
-            Ok(())
-        }
+        None => write_null("refusal", json),
     }
 }
 
 /// Writes the instructions of a chunk.
-fn write_chunk_items<W: Write>(
+fn write_chunk_items(
     alloc: Global,
     naming: Naming<'_>,
     code: &CodeListing,
     chunk: &Chunk,
     explained: &ExplainedChunk,
     handlers: Handlers<'_>,
-    stream: &mut JsonStream<'_, W>,
-) -> io::Result<()> {
-    begin_array("items", &mut stream.json)?;
-    let items = code.between(chunk.entry() as usize, chunk.end() as usize);
-    for (index, item) in items.iter().enumerate() {
-        if index != 0 {
-            stream.next_value()?;
-        }
+    json: &mut Writer,
+) -> Result<(), AllocError> {
+    begin_array("items", json)?;
+    for item in code.between(chunk.entry() as usize, chunk.end() as usize) {
         let found = row_at(explained, item.0);
-        write_item(alloc, naming, code, item, handlers, found, &mut stream.json)?;
+        write_item(alloc, naming, code, item, handlers, found, json)?;
     }
-    stream.json.end_array()?;
-    Ok(())
+    json.end_array()
 }
 
 /// Writes what a chunk is called, if chunks have names.
@@ -292,33 +276,23 @@ fn write_name(naming: Naming<'_>, place: usize, json: &mut Writer) -> Result<(),
     }
 }
 
-/// Writes what is before the instructions of an explained chunk: what it is called, where it is, and what it declares.
-fn write_chunk_head(
-    naming: Naming<'_>,
-    place: usize,
-    chunk: &Chunk,
-    json: &mut Writer,
-) -> Result<(), AllocError> {
-    json.begin_object()?;
-    write_name(naming, place, json)?;
-    write_number("entry", u64::from(chunk.entry()), json)?;
-    write_number("end", u64::from(chunk.end()), json)?;
-    write_number("declared", u64::from(chunk.max_stack()), json)
-}
-
 /// Writes an explained chunk.
-fn write_chunk<W: Write>(
+fn write_chunk(
     alloc: Global,
     naming: Naming<'_>,
     program: &ProgramListing,
     place: usize,
     chunk: &Chunk,
     explained: &ExplainedChunk,
-    stream: &mut JsonStream<'_, W>,
-) -> io::Result<()> {
+    json: &mut Writer,
+) -> Result<(), AllocError> {
     let handlers = program.handlers_at(place);
-    write_chunk_head(naming, place, chunk, &mut stream.json)?;
-    write_chunk_refusal(alloc, handlers, &explained.refusal, stream)?;
+    json.begin_object()?;
+    write_name(naming, place, json)?;
+    write_number("entry", u64::from(chunk.entry()), json)?;
+    write_number("end", u64::from(chunk.end()), json)?;
+    write_number("declared", u64::from(chunk.max_stack()), json)?;
+    write_chunk_refusal(alloc, handlers, &explained.refusal, json)?;
     write_chunk_items(
         alloc,
         naming,
@@ -326,10 +300,9 @@ fn write_chunk<W: Write>(
         chunk,
         explained,
         handlers,
-        stream,
+        json,
     )?;
-    stream.json.end_object()?;
-    Ok(())
+    json.end_object()
 }
 
 /// What is listed.
@@ -365,12 +338,6 @@ impl<'a> Listed<'a> {
     }
 }
 
-/// Writes an array of nothing.
-fn write_empty(name: &str, json: &mut Writer) -> Result<(), AllocError> {
-    begin_array(name, json)?;
-    json.end_array()
-}
-
 /// Writes why code with chunks is refused before these.
 fn write_refusal_before(
     alloc: Global,
@@ -384,8 +351,8 @@ fn write_refusal_before(
     write_error(alloc, error, json)?;
     write_words("wrong", said.as_str(), json)?;
     write_words("rule", early_rule(error), json)?;
-    write_empty("path", json)?;
-    write_empty("other_path", json)?;
+    write_path("path", NO_HANDLERS, &[], json)?;
+    write_path("other_path", NO_HANDLERS, &[], json)?;
     json.end_object()
 }
 
@@ -403,64 +370,48 @@ fn write_early_refusal(
 }
 
 /// Writes the instructions of code that is listed without chunks.
-fn write_items<W: Write>(
+fn write_items(
     alloc: Global,
     naming: Naming<'_>,
     listed: Listed<'_>,
-    stream: &mut JsonStream<'_, W>,
-) -> io::Result<()> {
-    begin_array("items", &mut stream.json)?;
+    json: &mut Writer,
+) -> Result<(), AllocError> {
+    begin_array("items", json)?;
     if let Some(code) = listed.bare_code() {
-        for (index, item) in code.items.iter().enumerate() {
-            if index != 0 {
-                stream.next_value()?;
-            }
-            write_item(
-                alloc,
-                naming,
-                code,
-                item,
-                NO_HANDLERS,
-                None,
-                &mut stream.json,
-            )?;
+        for item in &code.items {
+            write_item(alloc, naming, code, item, NO_HANDLERS, None, json)?;
         }
     }
-    stream.json.end_array()?;
-    Ok(())
+    json.end_array()
 }
 
-fn write_chunks<W: Write>(
+fn write_chunks(
     alloc: Global,
     naming: Naming<'_>,
     listed: Listed<'_>,
-    stream: &mut JsonStream<'_, W>,
-) -> io::Result<()> {
-    begin_array("chunks", &mut stream.json)?;
+    json: &mut Writer,
+) -> Result<(), AllocError> {
+    begin_array("chunks", json)?;
     if let Listed::Program(program) = listed {
         let pairs = program.chunks.iter().zip(program.explained.chunks.iter());
         for (place, (chunk, explained)) in pairs.enumerate() {
-            if place != 0 {
-                stream.next_value()?;
-            }
-            write_chunk(alloc, naming, program, place, chunk, explained, stream)?;
+            write_chunk(alloc, naming, program, place, chunk, explained, json)?;
         }
     }
-    stream.json.end_array()?;
-    Ok(())
+    json.end_array()
 }
 
 /// Writes what is listed as the members `refusal`, `items` and `chunks` of an object.
 ///
 /// # Errors
-/// It can't be written, or memory was refused.
-pub fn write_listed<W: Write>(
+/// [`AllocError`] where memory was refused.
+pub fn write_listed(
     alloc: Global,
     naming: Naming<'_>,
     listed: Listed<'_>,
-    stream: &mut JsonStream<'_, W>,
-) -> io::Result<()> {
-    write_early_refusal(alloc, naming, listed, &mut stream.json)?;
-    write_items(alloc, naming, listed, stream)?;
-    write_chunks(alloc, naming, listed, stream)
+    json: &mut Writer,
+) -> Result<(), AllocError> {
+    write_early_refusal(alloc, naming, listed, json)?;
+    write_items(alloc, naming, listed, json)?;
+    write_chunks(alloc, naming, listed, json)
 }

@@ -4,10 +4,11 @@ use clap::ArgMatches;
 use grain_cli::arguments::{Argument, FILE, Subcommand};
 use grain_cli::failure::Failure;
 use grain_cli::files::{is_sidecar, program_of, read_bytes, shown, sidecar_of};
-use grain_cli::output::Output;
+use grain_cli::output::write_text;
 use grain_cli::overlaps::refuse_input;
 use grain_dump::{Dump, program_dump, sidecar_dump};
 use grain_file::WriteError;
+use std::alloc::Global;
 
 /// `grain dump`
 pub const SUBCOMMAND: Subcommand = Subcommand {
@@ -30,49 +31,32 @@ pub const SUBCOMMAND: Subcommand = Subcommand {
     ],
 };
 
-/// Writes a dump, as text or as JSON.
-fn write_dump(
-    rt: &HostRuntime,
-    matches: &ArgMatches<'_>,
-    path: &str,
-    dump: &Dump<'_>,
-    bytes: &[u8],
-) -> Result<(), Failure> {
-    let mut output = Output::open(rt, matches.get_str("output"))?;
-    let written = if matches.get_flag("json") {
-        dump.write_json(rt.alloc(), path, bytes, &mut output)
-    } else {
-        dump.write_text(rt.alloc(), bytes, &mut output)
-    };
-    output.end_written(rt, written)
-}
-
-/// Writes the dump of a program file.
-fn dump_program(
-    rt: &HostRuntime,
-    matches: &ArgMatches<'_>,
-    path: &str,
-    bytes: &[u8],
-) -> Result<(), Failure> {
-    let program = program_of(rt.alloc(), path, bytes)?;
-    match program_dump(rt.alloc(), &program, matches.get_flag("hex")) {
-        Ok(dump) => write_dump(rt, matches, path, &dump, bytes),
+/// The dump of a file, with its items where these are wanted.
+fn dump_of(alloc: Global, path: &str, bytes: &[u8], with_items: bool) -> Result<Dump, Failure> {
+    if is_sidecar(bytes) {
+        let sidecar = sidecar_of(alloc, path, bytes)?;
+        return Ok(sidecar_dump(alloc, &sidecar, with_items)?);
+    }
+    let program = program_of(alloc, path, bytes)?;
+    match program_dump(alloc, &program, with_items) {
+        Ok(dump) => Ok(dump),
         Err(WriteError::OutOfMemory) => Err(Failure::OutOfMemory),
-        Err(error) => Err(Failure::of(rt.alloc(), shown(path), error)),
+        Err(error) => Err(Failure::of(alloc, shown(path), error)),
     }
 }
 
 /// Lists the sections of a file.
 pub fn run(rt: &HostRuntime, matches: &ArgMatches<'_>) -> Result<u8, Failure> {
+    let alloc = rt.alloc();
     let path = matches.get_str("FILE").unwrap_or("-");
-    refuse_input(rt, matches.get_str("output"), path)?;
+    let to = matches.get_str("output");
+    refuse_input(rt, to, path)?;
     let bytes = read_bytes(rt, path)?;
-    if is_sidecar(&bytes) {
-        let sidecar = sidecar_of(rt.alloc(), path, &bytes)?;
-        let dump = sidecar_dump(rt.alloc(), &sidecar, matches.get_flag("hex"))?;
-        write_dump(rt, matches, path, &dump, &bytes)?;
+    let dump = dump_of(alloc, path, &bytes, matches.get_flag("hex"))?;
+    if matches.get_flag("json") {
+        write_text(rt, to, &dump.json(alloc, path, &bytes)?)?;
     } else {
-        dump_program(rt, matches, path, &bytes)?;
+        write_text(rt, to, dump.text(alloc, &bytes)?.as_bytes())?;
     }
     Ok(0)
 }

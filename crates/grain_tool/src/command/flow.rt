@@ -8,14 +8,11 @@ use grain_cli::arguments::{Argument, FILE, Subcommand};
 use grain_cli::failure::Failure;
 use grain_cli::files::shown;
 use grain_cli::loading::{WORK, admit, allowed_of};
-use grain_cli::output::Output;
+use grain_cli::output::write_text;
 use grain_cli::overlaps::refuse_input;
 use grain_flow::{Graph, write_dot, write_svg};
 use grain_listing::{ProgramListing, name_of};
-use grain_stream::TextStream;
 use std::alloc::{AllocError, Global};
-use std::io;
-use std::io::Write;
 
 /// `grain flow`
 pub const SUBCOMMAND: Subcommand = Subcommand {
@@ -66,20 +63,15 @@ fn undrawn(alloc: Global, path: &str, listing: &ProgramListing) -> Failure {
     }
 }
 
-/// Writes a picture, for Graphviz or as SVG.
-fn write_picture<W: Write>(
-    alloc: Global,
-    graph: &Graph,
-    is_dot: bool,
-    out: &mut W,
-) -> io::Result<()> {
-    let mut stream = TextStream::new(alloc, out);
+/// The text of a picture, for Graphviz or as SVG.
+fn picture_of(alloc: Global, graph: &Graph, is_dot: bool) -> Result<String, AllocError> {
+    let mut text = String::new(alloc);
     if is_dot {
-        write_dot(graph, &mut stream)?;
+        write_dot(graph, &mut text)?;
     } else {
-        write_svg(alloc, graph, &mut stream)?;
+        write_svg(alloc, graph, &mut text)?;
     }
-    stream.finish()
+    Ok(text)
 }
 
 /// The control flow of the function with a name, if one has it and is explained.
@@ -95,16 +87,17 @@ fn graph_of(
     }
 }
 
-/// The control flow of a function of a program.
+/// The picture of a function of a program.
 fn drawn(
     alloc: Global,
     path: &str,
     program: &Program,
     name: Option<&str>,
-) -> Result<Graph, Failure> {
+    is_dot: bool,
+) -> Result<String, Failure> {
     let listing = explained(alloc, program)?;
     match graph_of(alloc, program, &listing, name)? {
-        Some(graph) => Ok(graph),
+        Some(graph) => Ok(picture_of(alloc, &graph, is_dot)?),
         None => Err(undrawn(alloc, path, &listing)),
     }
 }
@@ -117,9 +110,7 @@ pub fn run(rt: &HostRuntime, matches: &ArgMatches<'_>) -> Result<u8, Failure> {
     refuse_input(rt, to, path)?;
     let program = program_in(rt, path)?;
     admit(rt.alloc(), path, allowed_of(matches), &program)?;
-    let graph = drawn(rt.alloc(), path, &program, name)?;
-    let mut output = Output::open(rt, to)?;
-    let written = write_picture(rt.alloc(), &graph, is_dot, &mut output);
-    output.end_written(rt, written)?;
+    let text = drawn(rt.alloc(), path, &program, name, is_dot)?;
+    write_text(rt, to, text.as_bytes())?;
     Ok(0)
 }

@@ -5,6 +5,7 @@ use grain::{Caps, Flags, Program, VerifyError};
 use grain_cli::arguments::{Argument, FILE, Subcommand};
 use grain_cli::failure::Failure;
 use grain_cli::files::{read_program, shown};
+use grain_cli::json_lines::{line_of, writer};
 use grain_cli::loading::{
     Allowed, Obstacle, WORK, allowed_of, obstacle_before, push_lacking, refused,
 };
@@ -14,11 +15,8 @@ use grain_listing::{
     Colours, Kind, Listed, Naming, Paint, ProgramListing, Style, count_parts, push_shown,
     write_listed, write_part,
 };
-use grain_stream::JsonStream;
 use json::Writer;
 use std::alloc::{AllocError, Global};
-use std::io;
-use std::io::Write;
 
 /// `grain list`
 pub const SUBCOMMAND: Subcommand = Subcommand {
@@ -116,7 +114,7 @@ fn write_parts(
 ) -> Result<(), Failure> {
     for place in 0..count_parts(listing) {
         let text = part_of(rt.alloc(), style, listing, place)?;
-        output.write_bytes(rt, text.as_bytes())?;
+        output.write(rt, text.as_bytes())?;
     }
     Ok(())
 }
@@ -131,13 +129,16 @@ fn write_as_text(
     refusal: Option<&str>,
 ) -> Result<(), Failure> {
     let heading = heading_of(rt.alloc(), style.paint, shown(path), refusal)?;
-    output.write_bytes(rt, heading.as_bytes())?;
+    output.write(rt, heading.as_bytes())?;
     write_parts(rt, output, style, listing)
 }
 
-/// Writes what comes before the listing of a program.
-fn write_object_head(
+/// Appends the listing of a program.
+fn write_object(
+    alloc: Global,
     path: &str,
+    naming: Naming<'_>,
+    listing: &ProgramListing,
     refusal: Option<&str>,
     json: &mut Writer,
 ) -> Result<(), AllocError> {
@@ -148,25 +149,24 @@ fn write_object_head(
     json.boolean(refusal.is_none())?;
     json.key("error")?;
     match refusal {
-        None => json.null(),
-        Some(error) => json.string(error),
+        None => json.null()?,
+        Some(error) => json.string(error)?,
     }
+    write_listed(alloc, naming, Listed::Program(listing), json)?;
+    json.end_object()
 }
 
-/// Writes the listing of a program as a line of JSON.
-fn write_object<W: Write>(
+/// The listing of a program as a line of JSON.
+fn object_of(
     alloc: Global,
     path: &str,
     naming: Naming<'_>,
     listing: &ProgramListing,
     refusal: Option<&str>,
-    out: &mut W,
-) -> io::Result<()> {
-    let mut stream = JsonStream::new(alloc, out);
-    write_object_head(path, refusal, &mut stream.json)?;
-    write_listed(alloc, naming, Listed::Program(listing), &mut stream)?;
-    stream.json.end_object()?;
-    stream.finish()
+) -> Result<Vec<u8>, AllocError> {
+    let mut json = writer(alloc);
+    write_object(alloc, path, naming, listing, refusal, &mut json)?;
+    line_of(json)
 }
 
 /// The explanation of a program. A verdict that memory ran out is none.
@@ -192,10 +192,7 @@ fn write_listing(
     let refusal = refusal_of(rt.alloc(), &listing, missing)?;
     let refusal = refusal.as_deref();
     match paint {
-        None => match write_object(rt.alloc(), path, naming, &listing, refusal, output) {
-            Ok(()) => Ok(()),
-            Err(error) => Err(output.failed(rt, error)),
-        },
+        None => output.write(rt, &object_of(rt.alloc(), path, naming, &listing, refusal)?),
         Some(paint) => {
             let style = Style { paint, naming };
             write_as_text(rt, output, style, path, &listing, refusal)

@@ -30,7 +30,7 @@ fn write_pieces(rt: &HostRuntime, output: &mut Output, program: &Program) -> Res
     let printer = Printer::new(rt.alloc(), program)?;
     for index in 0..printer.count_pieces() {
         let text = piece_of(rt.alloc(), &printer, index)?;
-        output.write_bytes(rt, text.as_bytes())?;
+        output.write(rt, text.as_bytes())?;
     }
     Ok(())
 }
