@@ -39,20 +39,6 @@ def check_full(grain):
     expect(grain.read("kept.grain") == old and sorted(os.listdir(grain.folder)) == before, "a write that fails leaves another file")
 
 
-def check_full_text(grain):
-    """The same of a text that is written as it is made."""
-    file = grain.write("long.grain", grain.done("parse", "-", given=b"tick\n" * 2000 + b"return\n"))
-    for words in (["list", "--json"], ["dump", "-x"], ["dump", "-x", "--json"], ["flow"], ["flow", "--dot"]):
-        grain.write("kept", b"old")
-        before = sorted(os.listdir(grain.folder))
-        status, _, errors = grain.run(*words, file, "-o", "kept", preexec_fn=lambda: limited(4096))
-        expect(status == 1 and errors.startswith(b"error: kept: "), f"{words} on a full disk ends with {status}: {errors!r}")
-        expect(grain.read("kept") == b"old" and sorted(os.listdir(grain.folder)) == before, f"{words} leaves another file")
-        with open("/dev/full", "wb") as full:
-            status, _, errors = grain.run(*words, file, to=full)
-        expect(status == 1 and errors.startswith(b"error: standard output: "), f"{words} to /dev/full ends with {status}: {errors!r}")
-
-
 def check_positions(grain):
     """What a number in a text has `parse` allocate is bounded by the text, and each program comes back."""
     expect(b"number too large" in grain.run("parse", "-", given=b".positions 67108838")[2], "many positions of a short text are read")
@@ -89,7 +75,7 @@ def main():
         sys.exit(__doc__)
     with tempfile.TemporaryDirectory() as folder:
         grain = Program(sys.argv[1], folder)
-        for check in (check_version, check_full, check_full_text, check_positions, check_protected, check_growth):
+        for check in (check_version, check_full, check_positions, check_protected, check_growth):
             check(grain)
     print("limits of grain: well")
 
