@@ -1,4 +1,4 @@
-//! What verification reads of [`Pools`](crate::Pools): the instance of [`Read`](crate::Read) for hosts in Rattle. Those in C and Rust
+//! What verification reads of `Pools`: the instance of `Read` for hosts in Rattle. Those in C and Rust
 //! have flat rows, which are read in place by `grain_flat`.
 ghost use Rattle.std.specs.Prelude.{◌≡◌, ◌<◌, ◌≤◌, ◌++◌, ◌∷◌, [], IfNone, IfSome, get_or, length, map, option_map, slice_get};
 ghost use Rattle.std.specs.List.{flat_map};
