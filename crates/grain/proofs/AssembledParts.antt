@@ -9,10 +9,10 @@ use Rattle.std.proofs.lemmas.Slice.Zip.{firsts-zip, get_or-zip, seconds-zip}
 use Rattle.grain_pools.specs.Dispatch.{AreWithin, IsFirstPast, arms}
 use Rattle.grain_code.specs.Span.{Span}
 use Rattle.grain_pools.specs.declared.switch.Switch.{Switch}
-use Rattle.grain_code.specs.Cuts.{span_of}
+use Rattle.grain.specs.Build.{span_of}
 use Rattle.grain_rules.specs.ByIndex.{IsCut, LeadWithin}
 use Rattle.grain_rules.specs.Code.{switch_targets}
-use Rattle.grain_code.specs.declared.cut.Cut.{Cut}
+use Rattle.grain.specs.declared.builder.Cut.{Cut}
 use Rattle.grain.specs.declared.builder.Head.{Head}
 
 -- heads and cuts that have been gone through side by side

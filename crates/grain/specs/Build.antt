@@ -7,9 +7,7 @@ use Rattle.grain_bytecode.specs.AssembleErrors as assemble_errors
 use Rattle.grain_code.specs.Assembly.{CanAssemble, IsAssembly}
 use Rattle.grain_bytecode.specs.AssemblyFlaws.{IsAssemblyFlaw}
 use Rattle.grain_pools.specs.Dispatch.{IsFirstPast, arms, resolved}
-use Rattle.grain_code.specs.Cuts.{span_of}
 use Rattle.grain_code.specs.Span.{Span}
-use Rattle.grain_code.specs.declared.cut.Cut.{Cut}
 use Rattle.grain_bytecode.specs.declared.assemble_error.AssembleError.{AssembleError}
 use Rattle.grain_bytecode.specs.declared.assemble_error.AssembleError.TheVariants as refusals
 use Rattle.grain_code.specs.declared.function.Function.{Function}
@@ -27,6 +25,7 @@ use Rattle.grain_rules.specs.Texts.{verify_error_text}
 use Rattle.grain_rules.specs.Typing.{HasTyping, IsDeepest}
 use Rattle.grain.specs.declared.builder.BuildError.{BuildError}
 use Rattle.grain.specs.declared.builder.BuildError.TheVariants as errors
+use Rattle.grain.specs.declared.builder.Cut.{Cut}
 use Rattle.grain.specs.declared.builder.Head.{Head}
 use Rattle.grain_rules.specs.declared.error.VerifyError.{VerifyError}
 use Rattle.grain_rules.specs.declared.error.VerifyError.TheVariants as faults
@@ -40,6 +39,10 @@ pub record Draft : Type 0 where
   pub cuts : List Span
   pub heads : List Head
   pub parts : Parts
+
+-- a cut as a chunk of indices
+abbrev pub span_of : Cut → Span
+span_of cut = record { entry = cut.first; end = cut.end; max_stack = cut.max_stack }
 
 abbrev pub draft : Caps → List Op → List Cut → List Head → Parts → Draft
 draft caps ops cuts heads parts = record { caps = caps; ops = ops; cuts = map span_of cuts; heads = heads; parts = parts }

@@ -2,8 +2,7 @@
 ghost use Rattle.std.specs.Prelude.{◌≡◌, ◌↔◌, ◌⊎◌, ℕ, ◌+◌, ◌-◌, ◌<◌, IfErr, IfOk, IsTrue, OnOk, length, map, slice_index};
 ghost use Rattle.std.specs.List.{All};
 ghost use Rattle.grain_code.specs.Assembly.{CanAssemble, IsAssembly};
-ghost use Rattle.grain_code.specs.Cuts.{span_of};
-ghost use Rattle.grain.specs.Build.{AreCuts, AreDeepestByIndex, BuildFlaw, CanBuild, CanLay, IsFirstBadCut, IsLaid, draft, head_of};
+ghost use Rattle.grain.specs.Build.{AreCuts, AreDeepestByIndex, BuildFlaw, CanBuild, CanLay, IsFirstBadCut, IsLaid, draft, head_of, span_of};
 ghost use Rattle.grain.specs.Verified.{IsVerified};
 ghost use Rattle.grain_rules.specs.ByIndex.{IsCut, span_moved};
 
@@ -11,25 +10,38 @@ use crate::program::{Parts, Program};
 use crate::verified::Verified;
 use grain_base::{Caps, FnAccess};
 use grain_bytecode::{AssembleError, assemble, resolve_switch_targets};
-use grain_code::{Chunk, Cut, Function, Op};
+use grain_code::{Chunk, Function, Op};
 use grain_rules::VerifyError;
 use std::alloc::{AllocError, AllocFailed, Global};
 use std::fmt;
 
-/// Whether the cut is a part of as many operations.
-fn lies_in(cut: &Cut, count: usize) -> bool
-    ensures { IsTrue result ↔ IsCut count (span_of cut.now) }
-{
-    cut.first <= cut.end && cut.end <= count
+/// A part of a list of operations that becomes a chunk.
+#[derive(Clone, Copy, Debug, PartialEq, Eq)]
+pub struct Cut {
+    /// The index of its first operation.
+    pub first: usize,
+    /// The index past its last operation.
+    pub end: usize,
+    /// How many operands it declares that it stacks at most.
+    pub max_stack: u16,
 }
 
-/// The chunk from the address of the cut's first operation up to the address of its end.
-fn place(cut: &Cut, offsets: &[u32]) -> Chunk
-    requires some { 0 < length offsets.now }
-    requires inside { IsCut (length offsets.now - 1) (span_of cut.now) }
-    ensures { result ≡ span_moved (slice_index offsets.now) (span_of cut.now) }
-{
-    Chunk::new(offsets[cut.first], offsets[cut.end], cut.max_stack)
+impl Cut {
+    /// Whether it is a part of as many operations.
+    fn lies_in(&self, count: usize) -> bool
+        ensures { IsTrue result ↔ IsCut count (span_of self.now) }
+    {
+        self.first <= self.end && self.end <= count
+    }
+
+    /// The chunk from the address of its first operation up to the address of its end.
+    fn place(&self, offsets: &[u32]) -> Chunk
+        requires some { 0 < length offsets.now }
+        requires inside { IsCut (length offsets.now - 1) (span_of self.now) }
+        ensures { result ≡ span_moved (slice_index offsets.now) (span_of self.now) }
+    {
+        Chunk::new(offsets[self.first], offsets[self.end], self.max_stack)
+    }
 }
 
 /// What a function has besides its chunk. Names are indices of the name pool.
@@ -127,7 +139,7 @@ fn check_cuts(cuts: &[Cut], count: usize) -> Result<(), BuildError>
         × (e ≡ BuildError.BadCut place) × IsFirstBadCut count (map span_of cuts.now) place) }
 {
     for (index, cut) in cuts.iter().enumerate() {
-        if !lies_in(cut, count) {
+        if !cut.lies_in(count) {
             return Err(BuildError::BadCut { index });
         }
     }
@@ -155,7 +167,7 @@ fn place_functions(
             params: head.params,
             access: head.access,
             this_type: head.this_type,
-            chunk: place(cut, offsets),
+            chunk: cut.place(offsets),
         })?;
     }
     Ok(functions)
@@ -185,7 +197,7 @@ fn lay_cuts(
     let (code, offsets) = assemble(alloc, ops)?;
     resolve_switch_targets(&mut parts.switches, &offsets)?;
     let functions = place_functions(alloc, &offsets, &cuts[1..], heads)?;
-    let main = place(&cuts[0], &offsets);
+    let main = cuts[0].place(&offsets);
     let program = Program::new(alloc, caps, code, main, functions, parts);
     Ok((program, offsets))
 }

@@ -25,6 +25,7 @@ mod tighten;
 mod verified;
 
 pub use builder::BuildError;
+pub use builder::Cut;
 pub use builder::Head;
 pub use builder::build;
 pub use builder::lay;
@@ -49,7 +50,6 @@ pub use grain_bytecode::resolve_switch_targets;
 pub use grain_bytecode::site_to_position;
 pub use grain_bytecode::sites;
 pub use grain_code::Chunk;
-pub use grain_code::Cut;
 pub use grain_code::Disassembly;
 pub use grain_code::Field;
 pub use grain_code::Fields;

@@ -1,9 +1,9 @@
--- What the handlers of a frame stand on.
+-- What the handlers of a level stand on.
 use Rattle.std.proofs.Common.{◌≡◌, ℕ, ◌+◌, ◌≤◌, zero, suc, List, [], ◌∷◌, drop, refl, ap, arith}
 use Rattle.std.proofs.lemmas.List.{drop-drop}
 use Rattle.grain_rules.specs.Counts.{Base, last_base, without_last}
 use Rattle.grain_builder.specs.Sound.{AreNested, IsBased}
-use Rattle.grain_builder.specs.Assembler.{Frame, based_on, fresh, frame_without_handlers}
+use Rattle.grain_builder.specs.Unfinished.{Level, based_on, fresh, level_without_handlers}
 
 -- what is nested in a number is nested in a larger one
 pub nested_within : (n m : ℕ) (bases : List Base) → n ≤ m → AreNested n bases → AreNested m bases
@@ -27,7 +27,7 @@ nested_drop n (suc k) (b ∷ bases) h = nested_drop n k bases (nested_within b.i
 pub based_fresh : (home : ℕ) → IsBased (fresh home)
 based_fresh home = record { operands = omega arith; iterators = tt; there = omega arith }
 
-pub based_without : (n : ℕ) (l : Frame) → IsBased l → IsBased (frame_without_handlers n l)
+pub based_without : (n : ℕ) (l : Level) → IsBased l → IsBased (level_without_handlers n l)
 based_without n l based =
     let nested = nested_drop l.least n l.bases based.iterators in
     record {
@@ -41,5 +41,5 @@ drop_last [] = refl
 drop_last (b ∷ bases) = refl
 
 -- one more handler is dropped
-pub without_one_more : (n : ℕ) (l : Frame) → frame_without_handlers 1 (frame_without_handlers n l) ≡ frame_without_handlers (n + 1) l
+pub without_one_more : (n : ℕ) (l : Level) → level_without_handlers 1 (level_without_handlers n l) ≡ level_without_handlers (n + 1) l
 without_one_more n l = ap (λ (bases : List Base). based_on bases l) (drop-drop 1 n l.bases)

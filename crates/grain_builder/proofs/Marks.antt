@@ -10,7 +10,7 @@ use Rattle.grain_code.specs.declared.op.Op.{Op}
 use Rattle.grain_pools.specs.declared.chain.Chain.{Chain}
 use Rattle.grain_rules.specs.Counts.{nothing}
 use Rattle.grain_rules.specs.Effects.{after_fall, after_jump}
-use Rattle.grain_builder.specs.Assembler.{IsSameButFloor, StaysIn, Frame, Spot, fresh, spot}
+use Rattle.grain_builder.specs.Unfinished.{IsSameButFloor, StaysIn, Level, Spot, fresh, spot}
 use Rattle.grain_builder.specs.Fitting.{AreFitting, FitsAt, spot_counts, spot_of}
 use Rattle.grain_builder.specs.Sound.{IsBased, IsChunk, IsWellMade, Workings, nowhere}
 use Rattle.grain_builder.proofs.Appended.{get_cases, get_end, get_left, some_inj}
@@ -69,8 +69,8 @@ module _ (k : Workings) (s : IsWellMade k) where
   one_table t = with_more k.chains (k.tables ++ t ∷ []) (keeps_itself k.chains) (get_left k.tables (t ∷ []))
 
   -- where the run has left, another state may follow
-  pub elsewhere : k.fixed ≡ false → (n : ℕ) (frame : Frame) → frame.home ≡ k.frame.home → n ≤ 65535 → IsBased frame → IsWellMade (record k { operands = n; frame = frame })
-  elsewhere loose n frame home room base = record {
+  pub elsewhere : k.fixed ≡ false → (n : ℕ) (level : Level) → level.home ≡ k.level.home → n ≤ 65535 → IsBased level → IsWellMade (record k { operands = n; level = level })
+  elsewhere loose n level home room base = record {
     spots = s.spots;
     fitting = s.fitting;
     count = s.count;
@@ -88,8 +88,8 @@ module _ (k : Workings) (s : IsWellMade k) where
   }
 
   -- what has to stay may change where nothing on the stacks does
-  pub other_floor : (frame : Frame) → IsSameButFloor frame k.frame → IsBased frame → IsWellMade (record k { frame = frame })
-  other_floor frame same base = record {
+  pub other_floor : (level : Level) → IsSameButFloor level k.level → IsBased level → IsWellMade (record k { level = level })
+  other_floor level same base = record {
     spots = s.spots;
     fitting = s.fitting;
     count = s.count;
@@ -141,7 +141,7 @@ module _ (k : Workings) (s : IsWellMade k) where
   }
 
   -- the last label that is open is bound to the next operation
-  pub one_bound : k.fixed ≡ true → (l o : ℕ) → slice_get k.labels l ≡ Some (spot k.operands k.frame) → slice_get k.outers l ≡ Some o → k.pending ≡ l + 1 → length k.ops < nowhere → IsWellMade (record k { places = set k.places l (length k.ops); pending = o })
+  pub one_bound : k.fixed ≡ true → (l o : ℕ) → slice_get k.labels l ≡ Some (spot k.operands k.level) → slice_get k.outers l ≡ Some o → k.pending ≡ l + 1 → length k.ops < nowhere → IsWellMade (record k { places = set k.places l (length k.ops); pending = o })
   one_bound here l o is outer innermost few = record {
     spots = s.spots;
     fitting = s.fitting;
@@ -151,7 +151,7 @@ module _ (k : Workings) (s : IsWellMade k) where
     landing = λ j at p a b c. elim (set_cases k.places l (length k.ops) j at a) [
       | inl old ↦ s.landing j at p old.0 b c
       | inr new ↦
-          let e : Some (spot k.operands k.frame) ≡ Some p = sym is ∙ subst (λ m. slice_get k.labels m ≡ Some p) new.0 b in
+          let e : Some (spot k.operands k.level) ≡ Some p = sym is ∙ subst (λ m. slice_get k.labels m ≡ Some p) new.0 b in
           subst (λ m. slice_get s.spots m ≡ Some p) new.1 (s.last here ∙ e)
     ];
     homes = s.homes;
@@ -180,14 +180,14 @@ module _ (k : Workings) (s : IsWellMade k) where
   }
 
 -- a chunk ends, and the next begins
-pub one_chunk : (k : Workings) → IsWellMade k → k.fixed ≡ false → (cut : Span) → cut ≡ record { entry = k.frame.home; end = length k.ops; max_stack = 65535 } → IsWellMade (record k { cuts = k.cuts ++ cut ∷ []; operands = 0; frame = fresh (length k.ops); fixed = true })
+pub one_chunk : (k : Workings) → IsWellMade k → k.fixed ≡ false → (cut : Span) → cut ≡ record { entry = k.level.home; end = length k.ops; max_stack = 65535 } → IsWellMade (record k { cuts = k.cuts ++ cut ∷ []; operands = 0; level = fresh (length k.ops); fixed = true })
 one_chunk k s loose cut is =
     let many : length s.spots ≡ length k.ops + cond false 1 0 = subst (λ (b : Bool). length s.spots ≡ length k.ops + cond b 1 0) loose s.count in
     let same : length s.spots ≡ length k.ops = omega arith in
     let next : Spot = spot 0 (fresh (length k.ops)) in
-    let inner : k.frame.home < length k.ops = let h = slice_get_within s.spots k.frame.home (spot_of k.frame.home nothing) s.begun in omega arith in
-    let chunk : IsChunk k.ops (s.spots ++ next ∷ []) (record { entry = k.frame.home; end = length k.ops; max_stack = 65535 }) = record {
-      entry = get_left s.spots (next ∷ []) k.frame.home (spot_of k.frame.home nothing) s.begun;
+    let inner : k.level.home < length k.ops = let h = slice_get_within s.spots k.level.home (spot_of k.level.home nothing) s.begun in omega arith in
+    let chunk : IsChunk k.ops (s.spots ++ next ∷ []) (record { entry = k.level.home; end = length k.ops; max_stack = 65535 }) = record {
+      entry = get_left s.spots (next ∷ []) k.level.home (spot_of k.level.home nothing) s.begun;
       inside = omega arith;
       most = refl;
       behind = λ i p g e h. elim (get_cases s.spots next i p e) [
@@ -228,7 +228,7 @@ one_chunk k s loose cut is =
     }
 
 -- nothing is assembled yet
-pub started : IsWellMade (record { ops = []; chains = []; tables = []; labels = []; outers = []; places = []; cuts = []; operands = 0; frame = fresh 0; pending = 0; fixed = true })
+pub started : IsWellMade (record { ops = []; chains = []; tables = []; labels = []; outers = []; places = []; cuts = []; operands = 0; level = fresh 0; pending = 0; fixed = true })
 started =
     record {
       spots = spot 0 (fresh 0) ∷ [];

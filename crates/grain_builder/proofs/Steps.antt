@@ -8,7 +8,7 @@ use Rattle.grain_code.specs.declared.op.Op.{Op}
 use Rattle.grain_rules.specs.Counts.{Counts, nothing}
 use Rattle.grain_rules.specs.Effects.{after_fall, falls_through}
 use Rattle.grain_rules.specs.Setting.{Setting}
-use Rattle.grain_builder.specs.Assembler.{Frame, Spot, spot}
+use Rattle.grain_builder.specs.Unfinished.{Level, Spot, spot}
 use Rattle.grain_builder.specs.Fitting.{FitsAt, HasChains, spot_counts, spot_of}
 use Rattle.grain_builder.specs.Sound.{IsBased, IsChunk, IsWellMade, Workings}
 use Rattle.grain_builder.proofs.Appended.{get_cases, get_end, get_left, some_inj}
@@ -38,7 +38,7 @@ chunk_further ops spots p cut c h = record {
 -- what the next operation finds is settled
 pub settled : (k : Workings) → IsWellMade k → k.fixed ≡ false → IsWellMade (record k { fixed = true })
 settled k s loose =
-    let now : Spot = spot k.operands k.frame in
+    let now : Spot = spot k.operands k.level in
     let many : length s.spots ≡ length k.ops + cond false 1 0 = subst (λ (b : Bool). length s.spots ≡ length k.ops + cond b 1 0) loose s.count in
     let same : length s.spots ≡ length k.ops = omega arith in
     record {
@@ -62,7 +62,7 @@ settled k s loose =
         | inr new ↦ let h = s.home in let q : now.home ≡ p.home = ap (λ (x : Spot). x.home) new.1 in let g = new.0 in omega arith
       ];
       home = s.home;
-      begun = get_left s.spots (now ∷ []) k.frame.home (spot_of k.frame.home nothing) s.begun;
+      begun = get_left s.spots (now ∷ []) k.level.home (spot_of k.level.home nothing) s.begun;
       bound = s.bound;
       cuts = λ j cut e. let c = s.cuts j cut e in (chunk_further k.ops s.spots now cut c.0 c.1, c.1);
       ended = s.ended;
@@ -82,9 +82,9 @@ made_settled k s = elim (bool_cases k.fixed) [
 ]
 
 -- All labels, what they lead to, and the chunks are as they were.
-module _ (k : Workings) (s : IsWellMade k) (here : k.fixed ≡ true) (op : Op) (fits : FitsAt k.chains k.tables k.labels op (spot k.operands k.frame)) (n : ℕ) (frame : Frame) (home : frame.home ≡ k.frame.home) (room : n ≤ 65535) (base : IsBased frame) where
+module _ (k : Workings) (s : IsWellMade k) (here : k.fixed ≡ true) (op : Op) (fits : FitsAt k.chains k.tables k.labels op (spot k.operands k.level)) (n : ℕ) (level : Level) (home : level.home ≡ k.level.home) (room : n ≤ 65535) (base : IsBased level) where
   abbrev now : Spot
-  now = spot k.operands k.frame
+  now = spot k.operands k.level
 
   one_more : length s.spots ≡ length k.ops + 1
   one_more = subst (λ (b : Bool). length s.spots ≡ length k.ops + cond b 1 0) here s.count
@@ -93,7 +93,7 @@ module _ (k : Workings) (s : IsWellMade k) (here : k.fixed ≡ true) (op : Op) (
   last_spot = s.last here
 
   -- one more operation that doesn't fall through
-  pub put_leaving : falls_through op ≡ false → IsWellMade (record k { ops = k.ops ++ op ∷ []; operands = n; frame = frame; fixed = false })
+  pub put_leaving : falls_through op ≡ false → IsWellMade (record k { ops = k.ops ++ op ∷ []; operands = n; level = level; fixed = false })
   put_leaving stops = record {
     spots = s.spots;
     fitting = record {
@@ -123,9 +123,9 @@ module _ (k : Workings) (s : IsWellMade k) (here : k.fixed ≡ true) (op : Op) (
   }
 
   -- one more operation that falls through
-  pub put_falling : ((set : Setting) → HasChains set k.chains → after_fall set op (spot_counts now) ≡ spot_counts (spot n frame)) → IsWellMade (record k { ops = k.ops ++ op ∷ []; operands = n; frame = frame; fixed = true })
+  pub put_falling : ((set : Setting) → HasChains set k.chains → after_fall set op (spot_counts now) ≡ spot_counts (spot n level)) → IsWellMade (record k { ops = k.ops ++ op ∷ []; operands = n; level = level; fixed = true })
   put_falling after =
-      let next : Spot = spot n frame in
+      let next : Spot = spot n level in
       record {
         spots = s.spots ++ next ∷ [];
         fitting = record {
@@ -145,7 +145,7 @@ module _ (k : Workings) (s : IsWellMade k) (here : k.fixed ≡ true) (op : Op) (
               | inr new ↦
                   let e : now ≡ p = some_inj (sym last_spot ∙ subst (λ m. slice_get s.spots m ≡ Some p) new.0 b) in
                   let g : slice_get (s.spots ++ next ∷ []) (length k.ops + 1) ≡ Some next = subst (λ m. slice_get (s.spots ++ next ∷ []) m ≡ Some next) one_more (get_end s.spots next) in
-                  let same : next ≡ spot_of now.home (after_fall set op (spot_counts now)) = ap (λ (x : Counts). spot_of frame.home x) (sym (after set c)) ∙ ap (λ m. spot_of m (after_fall set op (spot_counts now))) home in
+                  let same : next ≡ spot_of now.home (after_fall set op (spot_counts now)) = ap (λ (x : Counts). spot_of level.home x) (sym (after set c)) ∙ ap (λ m. spot_of m (after_fall set op (spot_counts now))) home in
                   let there : slice_get (s.spots ++ next ∷ []) (i + 1) ≡ Some (spot_of now.home (after_fall set op (spot_counts now))) = subst (λ m. slice_get (s.spots ++ next ∷ []) (m + 1) ≡ Some (spot_of now.home (after_fall set op (spot_counts now)))) (sym new.0) (g ∙ ap (λ (x : Spot). Some x) same) in
                   subst (λ (x : Op). slice_get (s.spots ++ next ∷ []) (i + 1) ≡ Some (spot_of p.home (after_fall set x (spot_counts p)))) new.1
                   (subst (λ (x : Spot). slice_get (s.spots ++ next ∷ []) (i + 1) ≡ Some (spot_of x.home (after_fall set op (spot_counts x)))) e there)
@@ -161,10 +161,10 @@ module _ (k : Workings) (s : IsWellMade k) (here : k.fixed ≡ true) (op : Op) (
           | inr new ↦ let h = s.home in let q : next.home ≡ p.home = ap (λ (x : Spot). x.home) new.1 in let g = new.0 in let m = one_more in let u = home in omega arith
         ];
         home = let h = s.home in let e = length-append k.ops (op ∷ []) in let q = home in omega arith;
-        begun = get_left s.spots (next ∷ []) frame.home (spot_of frame.home nothing) (subst (λ m. slice_get s.spots m ≡ Some (spot_of m nothing)) (sym home) s.begun);
+        begun = get_left s.spots (next ∷ []) level.home (spot_of level.home nothing) (subst (λ m. slice_get s.spots m ≡ Some (spot_of m nothing)) (sym home) s.begun);
         bound = s.bound;
         cuts = λ j cut e. let c = s.cuts j cut e in
-            let behind : cut.end ≤ frame.home = let q = home in let h = c.1 in omega arith in
+            let behind : cut.end ≤ level.home = let q = home in let h = c.1 in omega arith in
             (chunk_further (k.ops ++ op ∷ []) s.spots next cut (chunk_longer k.ops (op ∷ []) s.spots cut c.0) behind, behind);
         ended = λ h. s.ended (let q = home in omega arith);
         room = room;

@@ -22,7 +22,7 @@ use Rattle.grain_rules.specs.Setting.{Setting}
 use Rattle.grain_rules.specs.Sinking.{Stays}
 use Rattle.grain_rules.specs.Typing.{HasTyping, Passes}
 use Rattle.grain_rules.proofs.FlowsAlong.{fall_same, falls_same, jump_same, meets_there, stays_there, target_from}
-use Rattle.grain_builder.specs.Assembler.{Spot}
+use Rattle.grain_builder.specs.Unfinished.{Spot}
 use Rattle.grain_builder.specs.Fitting.{HasChains, HasTables, spot_counts, spot_of}
 use Rattle.grain_builder.specs.Resolved.{resolved_op, resolved_tables}
 use Rattle.grain_builder.specs.Sound.{IsChunk, IsWellMade, Workings}

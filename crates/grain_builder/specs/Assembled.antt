@@ -1,10 +1,9 @@
 -- What the fields of an assembler say.
 use Rattle.std.specs.Prelude.{ℕ, List, [], ◌∷◌, ◌++◌, map}
-use Rattle.grain_code.specs.Cuts.{span_of}
 use Rattle.grain_code.specs.declared.op.Op.{Op}
 use Rattle.rhai_lexer.specs.declared.error.Place.{Place}
 use Rattle.grain_builder.specs.Sound.{Workings}
-use Rattle.grain_builder.specs.Assembler.{Spot, Assembler, spot}
+use Rattle.grain_builder.specs.Unfinished.{Spot, Unfinished, spot}
 use Rattle.grain_builder.specs.declared.assembler.Assembler.TheInside.{Inside}
 use Rattle.grain_builder.specs.declared.assembler.Label.{Label}
 use Rattle.grain_builder.specs.declared.assembler.PlacedOp.{PlacedOp}
@@ -34,17 +33,17 @@ workings_of a = record {
   labels = map spot_at a.labels.items;
   outers = map (λ (l : Label). l.outer) a.labels.items;
   places = map label_place a.labels.items;
-  cuts = map span_of a.cuts.items;
+  cuts = a.cuts.items;
   operands = a.operands;
-  frame = a.frame;
+  level = a.frame;
   pending = a.pending;
   fixed = a.is_fixed;
 }
 
-abbrev pub written : Inside → Assembler
+abbrev pub written : Inside → Unfinished
 written a = record {
   operands = a.operands;
-  frame = a.frame;
+  level = a.frame;
   labels = map spot_at a.labels.items;
   outers = map (λ (l : Label). l.outer) a.labels.items;
   pending = a.pending;

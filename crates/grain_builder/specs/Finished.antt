@@ -1,7 +1,6 @@
 -- What is promised of operations that are complete.
 use Rattle.std.specs.Prelude.{◌≡◌, ◌≤◌, ℕ, List, [], get_or, length, map, slice_get, Some}
 use Rattle.std.specs.List.{All, Contains}
-use Rattle.grain_code.specs.Cuts.{span_of}
 use Rattle.grain_code.specs.Span.{Span}
 use Rattle.grain_code.specs.declared.op.Op.{Op}
 use Rattle.grain_pools.specs.declared.chain.Chain.{Chain}
@@ -27,8 +26,8 @@ AreTypedCuts ops chains tables cuts =
 -- There is a chunk, each has a typing by index and lies among the operations, switches lead to operations or behind the last, and
 -- each operation has a place.
 pub record IsComplete (done : Assembled) : Type 0 where
-  pub typed : AreTypedCuts done.ops.items done.chains.items (map targets_of done.tables.items) (map span_of done.cuts.items)
-  pub cuts : All (IsCut (length done.ops.items)) (map span_of done.cuts.items)
+  pub typed : AreTypedCuts done.ops.items done.chains.items (map targets_of done.tables.items) done.cuts.items
+  pub cuts : All (IsCut (length done.ops.items)) done.cuts.items
   pub some : 1 ≤ length done.cuts.items
   pub leads : LeadWithin (length done.ops.items) (map targets_of done.tables.items)
   pub placed : length done.places.items ≡ length done.ops.items

@@ -7,9 +7,9 @@ use Rattle.grain_pools.specs.declared.chain.Chain.{Chain}
 use Rattle.grain_rules.specs.Counts.{Counts}
 use Rattle.grain_rules.specs.Effects.{Meets, after_fall, after_jump, falls_through, targets}
 use Rattle.grain_rules.specs.Rows.{gives, needs, takes}
-use Rattle.grain_rules.specs.Setting.{Setting, chain_takes, unset}
+use Rattle.grain_rules.specs.Setting.{Setting, chain_takes}
 use Rattle.grain_rules.specs.Sinking.{Stays}
-use Rattle.grain_builder.specs.Assembler.{Spot}
+use Rattle.grain_builder.specs.Unfinished.{Spot}
 
 abbrev pub spot_counts : Spot → Counts
 spot_counts p = record { operands = p.operands; iterators = p.iterators; bases = p.bases }
@@ -33,17 +33,10 @@ pub record FitsAt (chains : List Chain) (tables : List (List ℕ)) (labels : Lis
   pub stays : (s : Setting) → HasChains s chains → Stays s op (spot_counts p)
   pub jumps : (s : Setting) (all : List (List ℕ)) (l : ℕ) → HasChains s chains → HasTables all tables → Contains (targets all op) l → slice_get labels l ≡ Some (spot_of p.home (after_jump s op (spot_counts p)))
 
--- Each operation fits at the spot of its place, and the next place has the spot that it leaves if it falls through.
+-- Each operation fits at the spot of its place, and the next place has the spot that it leaves where it falls through.
 pub record AreFitting (chains : List Chain) (tables : List (List ℕ)) (labels : List Spot) (ops : List Op) (spots : List Spot) : Type 0 where
   pub fits : (i : ℕ) (op : Op) (p : Spot) → slice_get ops i ≡ Some op → slice_get spots i ≡ Some p → FitsAt chains tables labels op p
   pub falls : (i : ℕ) (op : Op) (p : Spot) (s : Setting) → slice_get ops i ≡ Some op → slice_get spots i ≡ Some p → HasChains s chains → falls_through op ≡ true → slice_get spots (i + 1) ≡ Some (spot_of p.home (after_fall s op (spot_counts p)))
-
--- how many operands an operation takes and gives if no pool decides it
-abbrev pub taken_by : Op → ℕ
-taken_by op = takes unset op
-
-abbrev pub given_by : Op → ℕ
-given_by op = gives unset op
 
 -- with this many operands the operation has what it needs, and this many are taken and given, whatever the pools hold
 abbrev pub HasEffect : Op → ℕ → ℕ → ℕ → Type 0

@@ -1,4 +1,4 @@
-pub mod Assembler
+pub mod Unfinished
 pub mod Fitting
 pub mod Sound
 pub mod Resolved

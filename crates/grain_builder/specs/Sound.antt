@@ -5,7 +5,7 @@ use Rattle.grain_code.specs.declared.op.Op.{Op}
 use Rattle.grain_pools.specs.declared.chain.Chain.{Chain}
 use Rattle.grain_rules.specs.Counts.{Base, nothing, last_base}
 use Rattle.grain_builder.specs.Fitting.{AreFitting, spot_of}
-use Rattle.grain_builder.specs.Assembler.{Frame, Spot, spot}
+use Rattle.grain_builder.specs.Unfinished.{Level, Spot, spot}
 
 -- All that is kept: the operations, whose targets are labels; chains; the labels of each switch; the spot of each label, the
 -- labels that were open around it, and the operation to which it is bound; the chunks that are complete; and what the rules see.
@@ -18,7 +18,7 @@ pub record Workings : Type 0 where
   pub places : List ℕ
   pub cuts : List Span
   pub operands : ℕ
-  pub frame : Frame
+  pub level : Level
   pub pending : ℕ
   pub fixed : Bool
 
@@ -44,24 +44,24 @@ AreNested n [] = Unit {0}
 AreNested n (b ∷ bases) = (b.iterators ≤ n) × AreNested b.iterators bases
 
 -- what has to stay is no less than the handlers stand on, and no more than there is of iterators
-pub record IsBased (frame : Frame) : Type 0 where
-  pub operands : (last_base frame.bases).operands ≤ frame.floor
-  pub iterators : AreNested frame.least frame.bases
-  pub there : frame.least ≤ frame.iterators
+pub record IsBased (level : Level) : Type 0 where
+  pub operands : (last_base level.bases).operands ≤ level.floor
+  pub iterators : AreNested level.least level.bases
+  pub there : level.least ≤ level.iterators
 
 -- There are spots with which all operations fit, and at which labels are bound.
 pub record IsWellMade (k : Workings) : Type 0 where
   pub spots : List Spot
   pub fitting : AreFitting k.chains k.tables k.labels k.ops spots
   pub count : length spots ≡ length k.ops + cond k.fixed 1 0
-  pub last : k.fixed ≡ true → slice_get spots (length k.ops) ≡ Some (spot k.operands k.frame)
+  pub last : k.fixed ≡ true → slice_get spots (length k.ops) ≡ Some (spot k.operands k.level)
   pub lengths : (length k.labels ≡ length k.places) × (length k.outers ≡ length k.places)
   pub landing : (l at : ℕ) (p : Spot) → slice_get k.places l ≡ Some at → slice_get k.labels l ≡ Some p → at < nowhere → slice_get spots at ≡ Some p
   pub homes : (i : ℕ) (p : Spot) → slice_get spots i ≡ Some p → p.home ≤ i
-  pub home : k.frame.home ≤ length k.ops
-  pub begun : slice_get spots k.frame.home ≡ Some (spot_of k.frame.home nothing)
+  pub home : k.level.home ≤ length k.ops
+  pub begun : slice_get spots k.level.home ≡ Some (spot_of k.level.home nothing)
   pub bound : AreBound k.outers k.places k.pending
-  pub cuts : (j : ℕ) (cut : Span) → slice_get k.cuts j ≡ Some cut → IsChunk k.ops spots cut × (cut.end ≤ k.frame.home)
-  pub ended : 1 ≤ k.frame.home → 1 ≤ length k.cuts
+  pub cuts : (j : ℕ) (cut : Span) → slice_get k.cuts j ≡ Some cut → IsChunk k.ops spots cut × (cut.end ≤ k.level.home)
+  pub ended : 1 ≤ k.level.home → 1 ≤ length k.cuts
   pub room : k.operands ≤ 65535
-  pub base : IsBased k.frame
+  pub base : IsBased k.level

@@ -1,7 +1,7 @@
 //! Operations in the making.
 
 use crate::frame::Frame;
-use grain_code::{Cut, Op};
+use grain_code::{Chunk, Op};
 use grain_pools::Chain;
 use rhai_lexer::Place;
 use std::alloc::{AllocError, Global};
@@ -38,8 +38,7 @@ pub struct TableTargets {
     pub default: u32,
 }
 
-/// Operations in the making, whose targets are labels. Each fits where it stands. Contracts see the record of the same
-/// name in specs/Assembler.antt.
+/// Operations in the making, whose targets are labels. Each fits where it stands. Contracts see an `Unfinished`.
 #[derive(Drop)]
 pub struct Assembler {
     pub(crate) alloc: Global,
@@ -47,7 +46,7 @@ pub struct Assembler {
     pub(crate) chains: Vec<Chain>,
     pub(crate) tables: Vec<TableTargets>,
     pub(crate) labels: Vec<Label>,
-    pub(crate) cuts: Vec<Cut>,
+    pub(crate) cuts: Vec<Chunk>,
     pub(crate) operands: usize,
     pub(crate) frame: Frame,
     pub(crate) pending: usize,
@@ -55,9 +54,9 @@ pub struct Assembler {
 }
 
 impl Model for Assembler {
-    ghost use Rattle.grain_builder.specs.Assembler.{Assembler};
+    ghost use Rattle.grain_builder.specs.Unfinished.{Unfinished};
 
-    ghost Value = { Assembler };
+    ghost Value = { Unfinished };
 
     ghost use Rattle.grain_builder.specs.Assembled.{workings_of, written};
     ghost use Rattle.grain_builder.specs.Sound.{IsWellMade};
@@ -80,8 +79,8 @@ impl Assembler {
 
     /// What surrounds the next operation.
     pub fn frame(&self) -> Result<Frame, AllocError>
-        ensures { IfOk result (λ f. f ≡ self.now.frame) }
+        ensures { IfOk result (λ f. f ≡ self.now.level) }
     {
-        self.frame.clone()
+        self.frame.copied()
     }
 }

@@ -4,7 +4,7 @@ ghost use Rattle.std.specs.List.{Contains};
 ghost use Rattle.grain_pools.specs.Chain.{consumed};
 ghost use Rattle.grain_rules.specs.Counts.{without_last};
 ghost use Rattle.grain_builder.specs.Assembled.{targets_of};
-ghost use Rattle.grain_builder.specs.Assembler.{StaysIn, LeavesOperands, SameLabels, spot, frame_with_handler, frame_with_iterator, frame_without_iterator, AddsPlace};
+ghost use Rattle.grain_builder.specs.Unfinished.{StaysIn, LeavesOperands, SameLabels, spot, level_with_handler, level_with_iterator, level_without_iterator, AddsPlace};
 
 use crate::assembler::{Assembler, PlacedOp, TableTargets};
 use crate::frame::Frame;
@@ -19,9 +19,9 @@ impl Assembler {
     /// # Errors
     /// The allocator refused.
     pub fn begin_iterator(&mut self, place: Place) -> Result<(), CompileError>
-        requires { self.old.frame.floor + 1 ≤ self.old.operands }
+        requires { self.old.level.floor + 1 ≤ self.old.operands }
         ensures operands { OnOk result (self.new.operands ≡ self.old.operands - 1) }
-        ensures frame { OnOk result (self.new.frame ≡ frame_with_iterator self.old.frame) }
+        ensures level { OnOk result (self.new.level ≡ level_with_iterator self.old.level) }
         ensures labels { OnOk result (SameLabels self.old self.new) }
         ensures placed { OnOk result (AddsPlace self.old self.new place) }
     {
@@ -44,10 +44,10 @@ impl Assembler {
         exit: u32,
         counter_slot: Option<u16>,
     ) -> Result<(), CompileError>
-        requires room { self.old.frame.floor ≤ self.old.operands }
-        requires one { self.old.frame.least + 1 ≤ self.old.frame.iterators }
+        requires room { self.old.level.floor ≤ self.old.operands }
+        requires one { self.old.level.least + 1 ≤ self.old.level.iterators }
         requires there { slice_get self.old.labels exit
-            ≡ Some (spot self.old.operands (frame_without_iterator self.old.frame)) }
+            ≡ Some (spot self.old.operands (level_without_iterator self.old.level)) }
         ensures leaves { OnOk result (LeavesOperands self.old self.new (self.old.operands + 1)) }
         ensures placed { OnOk result (AddsPlace self.old self.new place) }
     {
@@ -66,9 +66,9 @@ impl Assembler {
     /// # Errors
     /// The allocator refused.
     pub fn drop_iterator(&mut self, place: Place) -> Result<(), CompileError>
-        requires { self.old.frame.least + 1 ≤ self.old.frame.iterators }
+        requires { self.old.level.least + 1 ≤ self.old.level.iterators }
         ensures operands { OnOk result (self.new.operands ≡ self.old.operands) }
-        ensures frame { OnOk result (self.new.frame ≡ frame_without_iterator self.old.frame) }
+        ensures level { OnOk result (self.new.level ≡ level_without_iterator self.old.level) }
         ensures labels { OnOk result (SameLabels self.old self.new) }
         ensures placed { OnOk result (AddsPlace self.old self.new place) }
     {
@@ -86,13 +86,13 @@ impl Assembler {
     /// As [`Assembler::label`].
     pub fn catch_label(&mut self) -> Result<u32, CompileError>
         ensures here { IfOk result (λ l. slice_get self.new.labels l
-            ≡ Some (spot self.old.operands (frame_with_handler self.old.operands self.old.frame))) }
+            ≡ Some (spot self.old.operands (level_with_handler self.old.operands self.old.level))) }
         ensures outer { IfOk result (λ l. slice_get self.new.outers l ≡ Some self.old.pending) }
         ensures pending { IfOk result (λ l. self.new.pending ≡ l + 1) }
         ensures labels { OnOk result (StaysIn self.old.labels self.new.labels) }
         ensures outers { OnOk result (StaysIn self.old.outers self.new.outers) }
         ensures operands { OnOk result (self.new.operands ≡ self.old.operands) }
-        ensures frame { OnOk result (self.new.frame ≡ self.old.frame) }
+        ensures level { OnOk result (self.new.level ≡ self.old.level) }
         ensures places { OnOk result (self.new.places ≡ self.old.places) }
     {
         let operands = self.operands;
@@ -105,11 +105,11 @@ impl Assembler {
     /// # Errors
     /// The allocator refused.
     pub fn arm(&mut self, place: Place, label: u32, name: Option<u32>) -> Result<(), CompileError>
-        requires room { self.old.frame.floor ≤ self.old.operands }
+        requires room { self.old.level.floor ≤ self.old.operands }
         requires there { slice_get self.old.labels label
-            ≡ Some (spot self.old.operands (frame_with_handler self.old.operands self.old.frame)) }
+            ≡ Some (spot self.old.operands (level_with_handler self.old.operands self.old.level)) }
         ensures operands { OnOk result (self.new.operands ≡ self.old.operands) }
-        ensures frame { OnOk result (self.new.frame ≡ frame_with_handler self.old.operands self.old.frame) }
+        ensures level { OnOk result (self.new.level ≡ level_with_handler self.old.operands self.old.level) }
         ensures labels { OnOk result (SameLabels self.old self.new) }
         ensures placed { OnOk result (AddsPlace self.old self.new place) }
     {
@@ -129,16 +129,15 @@ impl Assembler {
     /// # Errors
     /// The allocator refused.
     pub fn disarm(&mut self, place: Place, outer: Frame) -> Result<(), CompileError>
-        requires armed { 1 ≤ length self.old.frame.bases }
-        requires bases { outer.bases ≡ without_last self.old.frame.bases }
-        requires iterators { outer.iterators ≡ self.old.frame.iterators }
-        requires home { outer.home ≡ self.old.frame.home }
+        requires armed { 1 ≤ length self.old.level.bases }
+        requires bases { outer.bases ≡ without_last self.old.level.bases }
+        requires iterators { outer.iterators ≡ self.old.level.iterators }
+        requires home { outer.home ≡ self.old.level.home }
         ensures operands { OnOk result (self.new.operands ≡ self.old.operands) }
-        ensures frame { OnOk result (self.new.frame ≡ outer) }
+        ensures level { OnOk result (self.new.level ≡ outer) }
         ensures labels { OnOk result (SameLabels self.old self.new) }
         ensures placed { OnOk result (AddsPlace self.old self.new place) }
     {
-        // Read for the prover alone: what holds of each frame.
         let _based = &outer.floor;
         let op = Op::PopHandler;
         self.ops.push(PlacedOp { op, place })?;
@@ -153,9 +152,9 @@ impl Assembler {
     /// # Errors
     /// There are too many switches, or the allocator refused.
     pub fn switch(&mut self, place: Place, targets: TableTargets) -> Result<u32, CompileError>
-        requires room { self.old.frame.floor + 1 ≤ self.old.operands }
+        requires room { self.old.level.floor + 1 ≤ self.old.operands }
         requires there { (l : ℕ) → Contains (targets_of targets) l
-            → slice_get self.old.labels l ≡ Some (spot self.old.operands self.old.frame) }
+            → slice_get self.old.labels l ≡ Some (spot self.old.operands self.old.level) }
         ensures leaves { OnOk result (LeavesOperands self.old self.new self.old.operands) }
         ensures loose { OnOk result (self.new.fixed ≡ false) }
         ensures placed { OnOk result (AddsPlace self.old self.new place) }
@@ -176,7 +175,7 @@ impl Assembler {
     /// # Errors
     /// There are too many chains or operands, or the allocator refused.
     pub fn chain(&mut self, place: Place, chain: Chain) -> Result<(), CompileError>
-        requires { self.old.frame.floor + consumed chain ≤ self.old.operands }
+        requires { self.old.level.floor + consumed chain ≤ self.old.operands }
         ensures leaves { OnOk result (LeavesOperands self.old self.new (self.old.operands - consumed chain + 1)) }
         ensures placed { OnOk result (AddsPlace self.old self.new place) }
     {

@@ -1,12 +1,17 @@
 //! Chunks: where they begin and end.
 ghost use Rattle.std.specs.Prelude.{◌≡◌, ◌≤◌, [], OnOk, false, true};
-ghost use Rattle.grain_builder.specs.Assembler.{SameLabels, fresh};
+ghost use Rattle.grain_builder.specs.Unfinished.{SameLabels, fresh};
 
 use crate::assembler::Assembler;
 use crate::frame::Frame;
-use grain_code::Cut;
-use rhai_lexer::CompileError;
+use grain_code::Chunk;
+use rhai_lexer::{CompileError, Place, Problem, Thing};
 use std::alloc::Global;
+
+/// There are more operations than targets can name.
+fn too_long() -> CompileError {
+    CompileError::new(Place::NONE, Problem::TooMany(Thing::Operations))
+}
 
 impl Assembler {
     /// No operations yet: the first chunk begins.
@@ -14,7 +19,7 @@ impl Assembler {
     pub fn new(alloc: Global) -> Assembler
         ensures { result ≡ record {
           operands = 0;
-          frame = fresh 0;
+          level = fresh 0;
           labels = [];
           outers = [];
           pending = 0;
@@ -39,23 +44,25 @@ impl Assembler {
     /// The chunk ends, whose last operation doesn't fall through and all of whose labels are bound. The next one begins.
     ///
     /// # Errors
-    /// The allocator refused.
+    /// There are too many operations, or the allocator refused.
     pub fn end_chunk(&mut self) -> Result<(), CompileError>
         requires loose { self.old.fixed ≡ false }
         requires bound { self.old.pending ≡ 0 }
         ensures operands { OnOk result (self.new.operands ≡ 0) }
-        ensures frame { OnOk result (self.new.frame ≡ fresh self.new.frame.home) }
+        ensures level { OnOk result (self.new.level ≡ fresh self.new.level.home) }
         ensures labels { OnOk result (SameLabels self.old self.new) }
-        ensures further { OnOk result (1 ≤ self.new.frame.home) }
+        ensures further { OnOk result (1 ≤ self.new.level.home) }
         ensures places { OnOk result (self.new.places ≡ self.old.places) }
     {
-        let end = self.ops.len();
-        let frame = Frame::outermost(self.alloc, end);
-        self.cuts.push(Cut {
-            first: self.frame.home(),
-            end,
-            max_stack: u16::MAX,
-        })?;
+        let Ok(entry) = u32::try_from(self.frame.home()) else {
+            return Err(too_long());
+        };
+        let Ok(end) = u32::try_from(self.ops.len()) else {
+            return Err(too_long());
+        };
+        let next = self.ops.len();
+        let frame = Frame::outermost(self.alloc, next);
+        self.cuts.push(Chunk::new(entry, end, u16::MAX))?;
         self.operands = 0;
         self.frame = frame;
         self.is_fixed = true;

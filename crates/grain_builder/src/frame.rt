@@ -2,7 +2,7 @@
 ghost use Rattle.std.specs.Prelude.{◌≡◌, ◌+◌, ◌≤◌, IfOk, length, map};
 ghost use Rattle.grain_rules.specs.Counts.{last_base};
 ghost use Rattle.grain_builder.specs.Frames.{frame_base};
-ghost use Rattle.grain_builder.specs.Assembler.{fresh, guarded, frame_with_handler, frame_with_iterator, frame_without_handlers, frame_without_iterator};
+ghost use Rattle.grain_builder.specs.Unfinished.{fresh, guarded, level_with_handler, level_with_iterator, level_without_handlers, level_without_iterator};
 
 use rhai_lexer::{CompileError, Place, Problem, Thing};
 use std::alloc::{AllocError, Global};
@@ -31,8 +31,7 @@ fn last_of(bases: &[Base]) -> Base
 }
 
 /// What surrounds the operations that are written: how many operands and iterators have to stay, how many iterators there are,
-/// the bases of the armed handlers, the last first, and where the chunk begins. Contracts see the record of the same name in
-/// specs/Assembler.antt.
+/// the bases of the armed handlers, the last first, and where the chunk begins. Contracts see a `Level`.
 #[derive(Drop)]
 pub struct Frame {
     pub(crate) floor: usize,
@@ -43,16 +42,16 @@ pub struct Frame {
 }
 
 impl Model for Frame {
-    ghost use Rattle.grain_builder.specs.Assembler.{Frame};
+    ghost use Rattle.grain_builder.specs.Unfinished.{Level};
 
-    ghost Value = { Frame };
+    ghost Value = { Level };
 
-    ghost use Rattle.grain_builder.specs.Frames.{frame_of};
+    ghost use Rattle.grain_builder.specs.Frames.{level_of};
     ghost use Rattle.grain_builder.specs.Sound.{IsBased};
 
-    ghost view = { frame_of };
+    ghost view = { level_of };
 
-    ghost invariant = { λ f. IsBased (frame_of f) };
+    ghost invariant = { λ f. IsBased (level_of f) };
 }
 
 impl Frame {
@@ -76,8 +75,8 @@ impl Frame {
         self.home
     }
 
-    /// A copy, which takes memory for the bases.
-    pub fn clone(&self) -> Result<Frame, AllocError>
+    /// The same.
+    pub fn copied(&self) -> Result<Frame, AllocError>
         ensures { IfOk result (λ f. f ≡ self.now) }
     {
         let bases = self.bases.clone()?;
@@ -92,7 +91,7 @@ impl Frame {
 
     /// With one more iterator. Those that are there stay.
     pub(crate) fn with_iterator(&self, place: Place) -> Result<Frame, CompileError>
-        ensures { IfOk result (λ f. f ≡ frame_with_iterator self.now) }
+        ensures { IfOk result (λ f. f ≡ level_with_iterator self.now) }
     {
         let Some(iterators) = self.iterators.checked_add(1) else {
             return Err(CompileError::new(place, Problem::TooMany(Thing::Statement)));
@@ -110,7 +109,7 @@ impl Frame {
     /// Without the last iterator.
     pub(crate) fn without_iterator(&self) -> Result<Frame, AllocError>
         requires { self.now.least + 1 ≤ self.now.iterators }
-        ensures { IfOk result (λ f. f ≡ frame_without_iterator self.now) }
+        ensures { IfOk result (λ f. f ≡ level_without_iterator self.now) }
     {
         let bases = self.bases.clone()?;
         Ok(Frame {
@@ -147,7 +146,7 @@ impl Frame {
     /// Without this many handlers, the last first. What the next handler stands on has to stay, and no more.
     pub(crate) fn without_handlers(&self, alloc: Global, count: usize) -> Result<Frame, AllocError>
         requires { count ≤ length self.now.bases }
-        ensures { IfOk result (λ f. f ≡ frame_without_handlers count self.now) }
+        ensures { IfOk result (λ f. f ≡ level_without_handlers count self.now) }
     {
         let kept = &self.bases[count..];
         let last = last_of(kept);
@@ -163,7 +162,7 @@ impl Frame {
 
     /// With one more handler, which stands on this many operands.
     pub(crate) fn with_handler(&self, operands: usize) -> Result<Frame, AllocError>
-        ensures { IfOk result (λ f. f ≡ frame_with_handler operands self.now) }
+        ensures { IfOk result (λ f. f ≡ level_with_handler operands self.now) }
     {
         let mut bases = self.bases.clone()?;
         let base = Base {

@@ -1,13 +1,13 @@
 //! Labels.
 ghost use Rattle.std.specs.Prelude.{◌≡◌, ◌+◌, ◌≤◌, IfOk, OnOk, Some, false, length, slice_get};
-ghost use Rattle.grain_builder.specs.Assembler.{StaysIn, SameLabels, spot};
+ghost use Rattle.grain_builder.specs.Unfinished.{StaysIn, SameLabels, spot};
 
 use crate::assembler::{Assembler, Label};
 use crate::frame::Frame;
 use crate::writing::{MAX_OPERANDS, too_many};
 use rhai_lexer::{CompileError, Place, Problem, Thing};
 
-/// The place of a label that isn't bound. No operation has it, since [`Assembler::bind`] refuses so many.
+/// The place of a label that isn't bound.
 const NOWHERE: u32 = u32::MAX;
 
 impl Assembler {
@@ -24,7 +24,7 @@ impl Assembler {
         ensures labels { OnOk result (StaysIn self.old.labels self.new.labels) }
         ensures outers { OnOk result (StaysIn self.old.outers self.new.outers) }
         ensures operands { OnOk result (self.new.operands ≡ self.old.operands) }
-        ensures frame { OnOk result (self.new.frame ≡ self.old.frame) }
+        ensures level { OnOk result (self.new.level ≡ self.old.level) }
         ensures places { OnOk result (self.new.places ≡ self.old.places) }
     {
         let Ok(label) = u32::try_from(self.labels.len()) else {
@@ -46,7 +46,7 @@ impl Assembler {
     /// # Errors
     /// There are too many labels, or the allocator refused.
     pub fn label(&mut self, operands: usize) -> Result<u32, CompileError>
-        ensures here { IfOk result (λ l. slice_get self.new.labels l ≡ Some (spot operands self.old.frame)) }
+        ensures here { IfOk result (λ l. slice_get self.new.labels l ≡ Some (spot operands self.old.level)) }
         ensures outer { IfOk result (λ l. slice_get self.new.outers l ≡ Some self.old.pending) }
         ensures last { IfOk result (λ l. l ≡ length self.old.labels) }
         ensures more { OnOk result (length self.new.labels ≡ length self.old.labels + 1) }
@@ -54,10 +54,10 @@ impl Assembler {
         ensures labels { OnOk result (StaysIn self.old.labels self.new.labels) }
         ensures outers { OnOk result (StaysIn self.old.outers self.new.outers) }
         ensures operands { OnOk result (self.new.operands ≡ self.old.operands) }
-        ensures frame { OnOk result (self.new.frame ≡ self.old.frame) }
+        ensures level { OnOk result (self.new.level ≡ self.old.level) }
         ensures places { OnOk result (self.new.places ≡ self.old.places) }
     {
-        let frame = self.frame.clone()?;
+        let frame = self.frame.copied()?;
         self.label_in(operands, frame)
     }
 
@@ -66,13 +66,13 @@ impl Assembler {
     /// # Errors
     /// There are too many operations.
     pub fn bind(&mut self, label: u32) -> Result<(), CompileError>
-        requires here { slice_get self.old.labels label ≡ Some (spot self.old.operands self.old.frame) }
+        requires here { slice_get self.old.labels label ≡ Some (spot self.old.operands self.old.level) }
         requires innermost { self.old.pending ≡ label + 1 }
         ensures pending { OnOk result (slice_get self.old.outers label ≡ Some self.new.pending) }
         ensures labels { OnOk result (self.new.labels ≡ self.old.labels) }
         ensures outers { OnOk result (self.new.outers ≡ self.old.outers) }
         ensures operands { OnOk result (self.new.operands ≡ self.old.operands) }
-        ensures frame { OnOk result (self.new.frame ≡ self.old.frame) }
+        ensures level { OnOk result (self.new.level ≡ self.old.level) }
         ensures places { OnOk result (self.new.places ≡ self.old.places) }
     {
         let at = match u32::try_from(self.ops.len()) {
@@ -87,7 +87,23 @@ impl Assembler {
         Ok(())
     }
 
-    /// After an operation that doesn't fall through the next one finds this many operands, in this frame of the chunk.
+    /// After an operation that doesn't fall through the next one finds this many operands.
+    ///
+    /// # Errors
+    /// There are more operands than a chunk can declare.
+    pub fn resume(&mut self, place: Place, operands: usize) -> Result<(), CompileError>
+        requires { self.old.fixed ≡ false }
+        ensures operands { OnOk result (self.new.operands ≡ operands) }
+        ensures rest { OnOk result (self.new ≡ record self.old { operands = operands }) }
+    {
+        if operands > MAX_OPERANDS {
+            return Err(too_many(place));
+        }
+        self.operands = operands;
+        Ok(())
+    }
+
+    /// The same in another frame of the chunk.
     ///
     /// # Errors
     /// There are more operands than a chunk can declare.
@@ -98,16 +114,15 @@ impl Assembler {
         frame: Frame,
     ) -> Result<(), CompileError>
         requires loose { self.old.fixed ≡ false }
-        requires home { frame.home ≡ self.old.frame.home }
+        requires home { frame.home ≡ self.old.level.home }
         ensures operands { OnOk result (self.new.operands ≡ operands) }
-        ensures frame { OnOk result (self.new.frame ≡ frame) }
+        ensures level { OnOk result (self.new.level ≡ frame) }
         ensures labels { OnOk result (SameLabels self.old self.new) }
         ensures places { OnOk result (self.new.places ≡ self.old.places) }
     {
         if operands > MAX_OPERANDS {
             return Err(too_many(place));
         }
-        // Read for the prover alone: what holds of each frame.
         let _based = &frame.floor;
         self.operands = operands;
         self.frame = frame;

@@ -1,7 +1,7 @@
 //! What has to stay, and what a path that leads away drops first.
 ghost use Rattle.std.specs.Prelude.{◌≡◌, ◌+◌, ◌-◌, ◌≤◌, OnOk, length};
 ghost use Rattle.grain_builder.specs.Sound.{IsBased};
-ghost use Rattle.grain_builder.specs.Assembler.{IsSameButFloor, LeavesOperands, SameLabels, guarded, frame_without_handlers, AddsPlace};
+ghost use Rattle.grain_builder.specs.Unfinished.{IsSameButFloor, LeavesOperands, SameLabels, guarded, level_without_handlers, AddsPlace};
 
 use crate::assembler::Assembler;
 use crate::frame::Frame;
@@ -12,7 +12,7 @@ use std::alloc::AllocError;
 impl Assembler {
     /// How many handlers are armed.
     pub fn handlers(&self) -> usize
-        ensures { result ≡ length self.now.frame.bases }
+        ensures { result ≡ length self.now.level.bases }
     {
         self.frame.handlers()
     }
@@ -22,10 +22,10 @@ impl Assembler {
     /// # Errors
     /// The allocator refused.
     pub fn guard(&mut self) -> Result<(), AllocError>
-        requires { self.old.frame.floor ≤ self.old.operands }
+        requires { self.old.level.floor ≤ self.old.operands }
         ensures operands { OnOk result (self.new.operands ≡ self.old.operands) }
-        ensures frame { OnOk result (self.new.frame ≡ guarded self.old.operands self.old.frame) }
-        ensures based { OnOk result (IsBased self.new.frame) }
+        ensures level { OnOk result (self.new.level ≡ guarded self.old.operands self.old.level) }
+        ensures based { OnOk result (IsBased self.new.level) }
         ensures labels { OnOk result (SameLabels self.old self.new) }
         ensures places { OnOk result (self.new.places ≡ self.old.places) }
     {
@@ -36,13 +36,12 @@ impl Assembler {
 
     /// What has to stay from here on is what this frame says, which has the same iterators and handlers.
     pub fn release(&mut self, frame: Frame)
-        requires { IsSameButFloor frame self.old.frame }
+        requires { IsSameButFloor frame self.old.level }
         ensures operands { self.new.operands ≡ self.old.operands }
-        ensures frame { self.new.frame ≡ frame }
+        ensures level { self.new.level ≡ frame }
         ensures labels { SameLabels self.old self.new }
         ensures places { self.new.places ≡ self.old.places }
     {
-        // Read for the prover alone: what holds of each frame.
         let _based = &frame.floor;
         self.frame = frame;
     }
@@ -52,9 +51,9 @@ impl Assembler {
     /// # Errors
     /// The allocator refused.
     pub fn drop_handlers(&mut self, place: Place, count: usize) -> Result<(), CompileError>
-        requires { count ≤ length self.old.frame.bases }
+        requires { count ≤ length self.old.level.bases }
         ensures operands { OnOk result (self.new.operands ≡ self.old.operands) }
-        ensures frame { OnOk result (self.new.frame ≡ frame_without_handlers count self.old.frame) }
+        ensures level { OnOk result (self.new.level ≡ level_without_handlers count self.old.level) }
         ensures labels { OnOk result (SameLabels self.old self.new) }
         ensures placed { OnOk result (AddsPlace self.old self.new place) }
     {
@@ -68,9 +67,9 @@ impl Assembler {
 
     /// Disarms the last handler.
     fn drop_handler(&mut self, place: Place) -> Result<(), CompileError>
-        requires { 1 ≤ length self.old.frame.bases }
+        requires { 1 ≤ length self.old.level.bases }
         ensures operands { OnOk result (self.new.operands ≡ self.old.operands) }
-        ensures frame { OnOk result (self.new.frame ≡ frame_without_handlers 1 self.old.frame) }
+        ensures level { OnOk result (self.new.level ≡ level_without_handlers 1 self.old.level) }
         ensures labels { OnOk result (SameLabels self.old self.new) }
         ensures placed { OnOk result (AddsPlace self.old self.new place) }
     {
@@ -83,12 +82,12 @@ impl Assembler {
     /// # Errors
     /// The allocator refused.
     pub fn drop_operands(&mut self, place: Place, count: usize) -> Result<(), CompileError>
-        requires { self.old.frame.floor + count ≤ self.old.operands }
+        requires { self.old.level.floor + count ≤ self.old.operands }
         ensures leaves { OnOk result (LeavesOperands self.old self.new (self.old.operands - count)) }
         ensures placed { OnOk result (AddsPlace self.old self.new place) }
     {
         'operands: for _turn in 0..count {
-            self.put(place, Op::Pop)?;
+            self.put(place, Op::Pop, 1, 0)?;
         }
         Ok(())
     }
@@ -98,13 +97,13 @@ impl Assembler {
     /// # Errors
     /// The allocator refused.
     pub fn drop_below(&mut self, place: Place, count: usize) -> Result<(), CompileError>
-        requires { self.old.frame.floor + count + 1 ≤ self.old.operands }
+        requires { self.old.level.floor + count + 1 ≤ self.old.operands }
         ensures leaves { OnOk result (LeavesOperands self.old self.new (self.old.operands - count)) }
         ensures placed { OnOk result (AddsPlace self.old self.new place) }
     {
         'operands: for _turn in 0..count {
-            self.put(place, Op::Rotate(1))?;
-            self.put(place, Op::Pop)?;
+            self.put(place, Op::Rotate(1), 2, 2)?;
+            self.put(place, Op::Pop, 1, 0)?;
         }
         Ok(())
     }

@@ -5,7 +5,7 @@ ghost use Rattle.grain_builder.specs.Finished.{IsComplete};
 ghost use Rattle.grain_builder.specs.Resolved.{resolved_op, resolved_tables};
 
 use crate::assembler::{Assembler, Label, PlacedOp, TableTargets};
-use grain_code::{Cut, Op};
+use grain_code::{Chunk, Op};
 use grain_pools::Chain;
 use rhai_lexer::{CompileError, Place};
 use std::alloc::{AllocError, Global};
@@ -21,8 +21,8 @@ pub struct Assembled {
     pub chains: Vec<Chain>,
     /// Where each switch leads.
     pub tables: Vec<TableTargets>,
-    /// The chunks, by index.
-    pub cuts: Vec<Cut>,
+    /// The chunks.
+    pub cuts: Vec<Chunk>,
 }
 
 /// The operation to which a label is bound, or the first one if there is no such label.
@@ -143,7 +143,7 @@ impl Assembler {
     /// The allocator refused.
     pub fn finish(self) -> Result<Assembled, CompileError>
         requires closed { self.pending ≡ 0 }
-        requires ended { 1 ≤ self.frame.home }
+        requires ended { 1 ≤ self.level.home }
         ensures complete { IfOk result IsComplete }
         ensures places { IfOk result (λ done. done.places.items ≡ self.places) }
     {

@@ -2,12 +2,11 @@
 ghost use Rattle.std.specs.Prelude.{◌≡◌, ◌+◌, ◌-◌, ◌≤◌, OnOk, Some, false, slice_get};
 ghost use Rattle.grain_rules.specs.Flow.{Falls, Ends, Jumps, Branches};
 ghost use Rattle.grain_rules.specs.Rows.{flow_of};
-ghost use Rattle.grain_builder.specs.Fitting.{HasEffect, given_by, taken_by};
-ghost use Rattle.grain_builder.specs.Assembler.{LeavesOperands, spot, AddsPlace};
+ghost use Rattle.grain_builder.specs.Fitting.{HasEffect};
+ghost use Rattle.grain_builder.specs.Unfinished.{LeavesOperands, spot, AddsPlace};
 
 use crate::assembler::{Assembler, PlacedOp};
 use grain_code::Op;
-use grain_rules::{Effect, NoPools};
 use rhai_lexer::{CompileError, Place, Problem, Thing};
 
 /// A chunk declares at most this many operands.
@@ -18,27 +17,24 @@ pub(crate) fn too_many(place: Place) -> CompileError {
     CompileError::new(place, Problem::TooMany(Thing::Items))
 }
 
-/// How many operands an operation takes and gives if no pool decides it.
-fn effect_of(op: &Op) -> (usize, usize)
-    ensures { result ≡ (taken_by op.now, given_by op.now) }
-{
-    let effect = Effect::of(op, &NoPools);
-    (effect.takes as usize, effect.gives as usize)
-}
-
 impl Assembler {
-    /// One more operation that falls through. What it takes and gives follows from it, and not from a pool as for a chain.
+    /// One more operation that falls through, and takes and gives this many operands.
     ///
     /// # Errors
     /// There are more operands than a chunk can declare, or the allocator refused.
-    pub fn put(&mut self, place: Place, op: Op) -> Result<(), CompileError>
+    pub fn put(
+        &mut self,
+        place: Place,
+        op: Op,
+        takes: usize,
+        gives: usize,
+    ) -> Result<(), CompileError>
         requires falls { flow_of op ≡ Falls }
-        requires does { HasEffect op self.old.operands (taken_by op) (given_by op) }
-        requires room { self.old.frame.floor + taken_by op ≤ self.old.operands }
-        ensures leaves { OnOk result (LeavesOperands self.old self.new (self.old.operands - taken_by op + given_by op)) }
+        requires does { HasEffect op self.old.operands takes gives }
+        requires room { self.old.level.floor + takes ≤ self.old.operands }
+        ensures leaves { OnOk result (LeavesOperands self.old self.new (self.old.operands - takes + gives)) }
         ensures placed { OnOk result (AddsPlace self.old self.new place) }
     {
-        let (takes, gives) = effect_of(&op);
         let kept = self.operands - takes;
         if gives > MAX_OPERANDS.saturating_sub(kept) {
             return Err(too_many(place));
@@ -53,10 +49,16 @@ impl Assembler {
     ///
     /// # Errors
     /// As [`Assembler::put`].
-    pub fn stop(&mut self, place: Place, op: Op, left: usize) -> Result<(), CompileError>
+    pub fn stop(
+        &mut self,
+        place: Place,
+        op: Op,
+        takes: usize,
+        left: usize,
+    ) -> Result<(), CompileError>
         requires ends { flow_of op ≡ Ends }
-        requires does { HasEffect op self.old.operands (taken_by op) 0 }
-        requires room { self.old.frame.floor + taken_by op ≤ self.old.operands }
+        requires does { HasEffect op self.old.operands takes 0 }
+        requires room { self.old.level.floor + takes ≤ self.old.operands }
         ensures leaves { OnOk result (LeavesOperands self.old self.new left) }
         ensures loose { OnOk result (self.new.fixed ≡ false) }
         ensures placed { OnOk result (AddsPlace self.old self.new place) }
@@ -75,8 +77,8 @@ impl Assembler {
     /// # Errors
     /// As [`Assembler::put`].
     pub fn jump(&mut self, place: Place, label: u32, left: usize) -> Result<(), CompileError>
-        requires there { slice_get self.old.labels label ≡ Some (spot self.old.operands self.old.frame) }
-        requires room { self.old.frame.floor ≤ self.old.operands }
+        requires there { slice_get self.old.labels label ≡ Some (spot self.old.operands self.old.level) }
+        requires room { self.old.level.floor ≤ self.old.operands }
         ensures leaves { OnOk result (LeavesOperands self.old self.new left) }
         ensures loose { OnOk result (self.new.fixed ≡ false) }
         ensures placed { OnOk result (AddsPlace self.old self.new place) }
@@ -91,19 +93,24 @@ impl Assembler {
         Ok(())
     }
 
-    /// Jumps to a label or falls through.
+    /// Jumps to a label or falls through, after this many operands were taken.
     ///
     /// # Errors
     /// As [`Assembler::put`].
-    pub fn branch(&mut self, place: Place, op: Op, label: u32) -> Result<(), CompileError>
+    pub fn branch(
+        &mut self,
+        place: Place,
+        op: Op,
+        label: u32,
+        takes: usize,
+    ) -> Result<(), CompileError>
         requires branches { flow_of op ≡ Branches label }
-        requires does { HasEffect op self.old.operands (taken_by op) 0 }
-        requires room { self.old.frame.floor + taken_by op ≤ self.old.operands }
-        requires there { slice_get self.old.labels label ≡ Some (spot (self.old.operands - taken_by op) self.old.frame) }
-        ensures leaves { OnOk result (LeavesOperands self.old self.new (self.old.operands - taken_by op)) }
+        requires does { HasEffect op self.old.operands takes 0 }
+        requires room { self.old.level.floor + takes ≤ self.old.operands }
+        requires there { slice_get self.old.labels label ≡ Some (spot (self.old.operands - takes) self.old.level) }
+        ensures leaves { OnOk result (LeavesOperands self.old self.new (self.old.operands - takes)) }
         ensures placed { OnOk result (AddsPlace self.old self.new place) }
     {
-        let (takes, _) = effect_of(&op);
         let operands = self.operands - takes;
         self.ops.push(PlacedOp { op, place })?;
         self.operands = operands;

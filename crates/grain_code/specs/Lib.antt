@@ -1,5 +1,4 @@
 pub mod Assembly
-pub mod Cuts
 pub mod Disassembly
 pub mod Fields
 pub mod Flows

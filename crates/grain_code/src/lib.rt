@@ -9,7 +9,6 @@
 
 mod chunk;
 mod code;
-mod cut;
 mod decoder;
 mod disassembly;
 mod encoding;
@@ -27,7 +26,6 @@ mod text;
 
 pub use chunk::Chunk;
 pub use code::{count_instructions, decode, u16_at, u32_at};
-pub use cut::Cut;
 pub use disassembly::{Disassembly, disassemble};
 pub use encoding::layout;
 pub use field::{Field, Fields, Pool};

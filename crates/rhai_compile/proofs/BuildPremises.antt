@@ -21,9 +21,8 @@ use Rattle.grain_rules.specs.Indices.{Indexed}
 use Rattle.grain_rules.specs.Rows.{caps_of}
 use Rattle.grain_rules.specs.Setting.{Setting, with_caps}
 use Rattle.grain_rules.specs.Typing.{HasTyping}
-use Rattle.grain.specs.Build.{CanBuild, draft, setting_with}
-use Rattle.grain_code.specs.Cuts.{span_of}
-use Rattle.grain_code.specs.declared.cut.Cut.{Cut}
+use Rattle.grain.specs.Build.{CanBuild, draft, setting_with, span_of}
+use Rattle.grain.specs.declared.builder.Cut.{Cut}
 use Rattle.grain.specs.declared.builder.Head.{Head}
 use Rattle.grain.specs.declared.program.Parts.{Parts}
 use Rattle.grain_builder.specs.Finished.{AreTypedCuts, LeadAmong}

@@ -5,7 +5,7 @@ use Rattle.grain_code.specs.declared.op.Op.{Op}
 use Rattle.grain_rules.specs.Accepted.{AreIndexed}
 use Rattle.grain.specs.Build.{CanLay, IsLaid, draft}
 use Rattle.grain.specs.Program.{Program, setting_of}
-use Rattle.grain_code.specs.declared.cut.Cut.{Cut}
+use Rattle.grain.specs.declared.builder.Cut.{Cut}
 use Rattle.grain.specs.declared.builder.Head.{Head}
 use Rattle.grain.specs.declared.program.Parts.{Parts}
 use Rattle.rhai_compile.specs.Capabilities.{every_capability}

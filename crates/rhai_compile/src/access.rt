@@ -49,7 +49,7 @@ impl<F: Fn(&mut Emitter, &Expr, usize, bool) -> Result<(), CompileError>> Coder<
     ) -> Result<usize, CompileError>
         requires rules { Writes (F.pre self.now.writes) (F.post self.now.writes) self.now.depth }
         requires stands { Stands emitter.old }
-        requires room { emitter.old.code.frame.floor + count (nat_lt 0 at.0) ≤ emitter.old.code.operands }
+        requires room { emitter.old.code.level.floor + count (nat_lt 0 at.0) ≤ emitter.old.code.operands }
         requires within { at.1 < length steps.now }
         ensures written { IfOk result (λ done. IsWritten emitter.old emitter.new
             (emitter.old.code.operands - count (nat_lt 0 at.0) + count (nat_lt 0 done))) }
@@ -87,7 +87,7 @@ impl<F: Fn(&mut Emitter, &Expr, usize, bool) -> Result<(), CompileError>> Coder<
     ) -> Result<(), CompileError>
         requires rules { Writes (F.pre self.now.writes) (F.post self.now.writes) self.now.depth }
         requires stands { Stands emitter.old }
-        requires room { emitter.old.code.frame.floor + count before.1 ≤ emitter.old.code.operands }
+        requires room { emitter.old.code.level.floor + count before.1 ≤ emitter.old.code.operands }
         ensures written { OnOk result (IsWritten emitter.old emitter.new (emitter.old.code.operands - count before.entry.1 + 1)) }
         ensures placed { OnOk result (AddsPlaces emitter.old emitter.new
             (both (here place) (both (expr_places root.now) (both (steps_places before.entry.0.now) (both (here method.0) (list_places arguments.now)))))) }
@@ -128,7 +128,7 @@ impl<F: Fn(&mut Emitter, &Expr, usize, bool) -> Result<(), CompileError>> Coder<
     ) -> Result<(), CompileError>
         requires rules { Writes (F.pre self.now.writes) (F.post self.now.writes) self.now.depth }
         requires stands { Stands emitter.old }
-        requires room { emitter.old.code.frame.floor + count is_on_top ≤ emitter.old.code.operands }
+        requires room { emitter.old.code.level.floor + count is_on_top ≤ emitter.old.code.operands }
         ensures written { OnOk result (IsWritten emitter.old emitter.new (emitter.old.code.operands - count is_on_top + 1)) }
         ensures placed { OnOk result (AddsPlaces emitter.old emitter.new
             (both (here place) (both (expr_places root.now) (steps_places steps.now)))) }
@@ -172,9 +172,9 @@ impl<F: Fn(&mut Emitter, &Expr, usize, bool) -> Result<(), CompileError>> Coder<
                 emitter.assign(target.place, place, *name, op)
             }
             Form::This => {
-                emitter.put(target.place, Op::RequireThis)?;
+                emitter.put(target.place, Op::RequireThis, 0, 0)?;
                 self.expr(emitter, value, true)?;
-                emitter.put(place, Op::AssignThis { op })
+                emitter.put(place, Op::AssignThis { op }, 1, 0)
             }
             Form::Access(root, steps) => {
                 emitter.check_variable(place, root)?;
@@ -211,7 +211,7 @@ impl<F: Fn(&mut Emitter, &Expr, usize, bool) -> Result<(), CompileError>> Coder<
             operands,
         };
         emitter.chain(place, chain)?;
-        emitter.put(place, Op::Pop)
+        emitter.put(place, Op::Pop, 1, 0)
     }
 
     /// The steps of a chain, whose operands are given here.

@@ -1,6 +1,6 @@
 //! The code of statements, and of expressions that have blocks.
 ghost use Rattle.std.specs.Prelude.{◌≡◌, ◌+◌, ◌-◌, ◌≤◌, OnOk, Some, slice_get};
-ghost use Rattle.grain_builder.specs.Assembler.{spot};
+ghost use Rattle.grain_builder.specs.Unfinished.{spot};
 ghost use Rattle.rhai_emit.specs.Loops.{count};
 ghost use Rattle.rhai_compile.specs.Writes.{Writes};
 ghost use Rattle.rhai_emit.specs.Rules.{IsWritten, Stands, AddsPlaces};
@@ -149,7 +149,7 @@ impl<F: Fn(&mut Emitter, &Expr, usize, bool) -> Result<(), CompileError>> Coder<
         requires rules { Writes (F.pre self.now.writes) (F.post self.now.writes) self.now.depth }
         requires stands { Stands emitter.old }
         requires there { slice_get emitter.old.code.labels end
-            ≡ Some (spot (emitter.old.code.operands + count is_wanted) emitter.old.code.frame) }
+            ≡ Some (spot (emitter.old.code.operands + count is_wanted) emitter.old.code.level) }
         ensures written { OnOk result (IsWritten emitter.old emitter.new (emitter.old.code.operands)) }
         ensures placed { OnOk result (AddsPlaces emitter.old emitter.new
             (branch_places branch.now)) }
@@ -179,7 +179,7 @@ impl<F: Fn(&mut Emitter, &Expr, usize, bool) -> Result<(), CompileError>> Coder<
     {
         match value {
             Some(value) => self.expr(emitter, value, true),
-            None => emitter.put(place, Op::Unit),
+            None => emitter.put(place, Op::Unit, 0, 1),
         }
     }
 
@@ -217,14 +217,14 @@ impl<F: Fn(&mut Emitter, &Expr, usize, bool) -> Result<(), CompileError>> Coder<
         requires rules { Writes (F.pre self.now.writes) (F.post self.now.writes) self.now.depth }
         requires stands { Stands emitter.old }
         requires there { slice_get emitter.old.code.labels end
-            ≡ Some (spot emitter.old.code.operands emitter.old.code.frame) }
+            ≡ Some (spot emitter.old.code.operands emitter.old.code.level) }
         ensures written { OnOk result (IsWritten emitter.old emitter.new emitter.old.code.operands) }
         ensures placed { OnOk result (AddsPlaces emitter.old emitter.new
             (both (here place) (list_places body.now))) }
     {
         let height = emitter.code.operands();
         let outer = emitter.code.frame()?;
-        let around = outer.clone()?;
+        let around = outer.copied()?;
         let target = emitter.code.catch_label()?;
         emitter.arm(place, target, fault)?;
         let inner = emitter.code.frame()?;

@@ -3,6 +3,7 @@ ghost use Rattle.std.specs.Prelude.{◌≡◌, ◌+◌, ◌≤◌, IfOk, IfSome,
 ghost use Rattle.std.specs.List.{All};
 ghost use Rattle.grain_code.specs.Assembly.{IsAssembly};
 ghost use Rattle.grain_rules.specs.Accepted.{AreIndexed, IsAccepted};
+ghost use Rattle.grain.specs.Build.{span_of};
 ghost use Rattle.grain.specs.Program.{declared_by, input_of, listed_positions, setting_of};
 ghost use Rattle.grain.specs.Tightened.{IsTightened};
 ghost use Rattle.grain.specs.Verified.{IsVerified};
@@ -15,7 +16,7 @@ ghost use Rattle.rhai_compile.specs.Positions.{AreApart, ArePlacedAt, ArePositio
 use crate::parts::parts;
 use crate::placing::{keep_in_chains, kept_place};
 use grain::{
-    BuildError, Caps, Cut, Flags, FnAccess, Head, Op, Parts, Position, Positions, Program,
+    BuildError, Caps, Chunk, Cut, Flags, FnAccess, Head, Op, Parts, Position, Positions, Program,
     Verified, VerifyError, lay,
 };
 use grain_builder::Assembled;
@@ -31,7 +32,7 @@ pub(crate) fn finish(
     lines: &Lines,
 ) -> Result<Verified, CompileError>
     requires closed { emitter.code.pending ≡ 0 }
-    requires ended { 1 ≤ emitter.code.frame.home }
+    requires ended { 1 ≤ emitter.code.level.home }
     ensures positions { IfOk result
         (λ built. ArePositions (IsListedPosition lines.now.lengths.items) built.program) }
     ensures placed { IfOk result
@@ -82,21 +83,42 @@ fn complete(
     } = assembled;
     keep_in_chains(&mut chains, lines);
     let parts = parts(pools, options, chains, &tables)?;
-    let (cuts, heads) = paired(cuts, heads);
+    let (cuts, heads) = paired(alloc, &cuts, heads)?;
     let (program, offsets) = laid(alloc, &ops, &cuts, heads, parts)?;
     let program = positioned(alloc, program, &offsets, &places, lines)?;
     verified(program)
 }
 
-/// As many chunks as there are heads and one for the top level, and no more heads than chunks after it.
-fn paired(mut cuts: Vec<Cut>, mut heads: Vec<Head>) -> (Vec<Cut>, Vec<Head>)
-    requires { 1 ≤ length cuts.items }
-    ensures count { length result.0.items ≡ length result.1.items + 1 }
-    ensures cuts { result.0.items ≡ take (length result.1.items + 1) cuts.items }
+/// The chunks as cuts of the operations, and for each but the first what its function has besides.
+fn paired(
+    alloc: Global,
+    chunks: &[Chunk],
+    heads: Vec<Head>,
+) -> Result<(Vec<Cut>, Vec<Head>), AllocError>
+    requires { 1 ≤ length chunks.now }
+    ensures count { IfOk result (λ p. length p.0.items ≡ length p.1.items + 1) }
+    ensures cuts { IfOk result
+        (λ p. map span_of p.0.items ≡ take (length p.1.items + 1) chunks.now) }
 {
-    heads.truncate(cuts.len() - 1);
-    cuts.truncate(heads.len() + 1);
-    (cuts, heads)
+    let mut heads = heads;
+    heads.truncate(chunks.len() - 1);
+    let cuts = cuts_of(alloc, &chunks[..heads.len() + 1])?;
+    Ok((cuts, heads))
+}
+
+/// The chunks as cuts of the operations.
+fn cuts_of(alloc: Global, chunks: &[Chunk]) -> Result<Vec<Cut>, AllocError>
+    ensures { IfOk result (λ v. map span_of v.items ≡ chunks.now) }
+{
+    let mut cuts = Vec::new(alloc);
+    for chunk in chunks {
+        cuts.push(Cut {
+            first: chunk.entry() as usize,
+            end: chunk.end() as usize,
+            max_stack: chunk.max_stack(),
+        })?;
+    }
+    Ok(cuts)
 }
 
 /// The program that is assembled of operations, with every capability, and where each operation begins in its code.
@@ -220,7 +242,6 @@ fn tight(mut verified: Verified) -> Verified
 pub(crate) fn head_of(emitter: &Emitter, index: usize) -> Result<Head, AllocError> {
     match emitter.signatures.get(index) {
         Some(signature) => head_with(emitter.alloc, signature),
-        // Each body has a signature, which no contract says.
         None => Ok(Head {
             name: 0,
             params: Vec::new(emitter.alloc),

@@ -31,7 +31,7 @@ impl<F: Fn(&mut Emitter, &Expr, usize, bool) -> Result<(), CompileError>> Coder<
             (CallTarget::Shared, [argument]) => self.is_shared(emitter, place, argument),
             (CallTarget::Pointer, [argument]) => {
                 self.expr(emitter, argument, true)?;
-                emitter.put(place, Op::MakeFnPtr)
+                emitter.put(place, Op::MakeFnPtr, 1, 1)
             }
             (CallTarget::Called, [pointer, others @ ..]) => {
                 self.expr(emitter, pointer, true)?;
@@ -61,10 +61,10 @@ impl<F: Fn(&mut Emitter, &Expr, usize, bool) -> Result<(), CompileError>> Coder<
             (both (here place) (expr_places argument.now))) }
     {
         match emitter.slot_of(argument) {
-            Some(slot) => emitter.put(argument.place, Op::LoadShared(slot))?,
+            Some(slot) => emitter.put(argument.place, Op::LoadShared(slot), 0, 1)?,
             None => self.expr(emitter, argument, true)?,
         }
-        emitter.put(place, Op::IsShared)
+        emitter.put(place, Op::IsShared, 1, 1)
     }
 
     /// A call of a function of the script or of the host. The host may change a local variable that is its first argument.
@@ -103,7 +103,7 @@ impl<F: Fn(&mut Emitter, &Expr, usize, bool) -> Result<(), CompileError>> Coder<
     ) -> Result<(), CompileError>
         requires rules { Writes (F.pre self.now.writes) (F.post self.now.writes) self.now.depth }
         requires stands { Stands emitter.old }
-        requires room { emitter.old.code.frame.floor + 1 ≤ emitter.old.code.operands }
+        requires room { emitter.old.code.level.floor + 1 ≤ emitter.old.code.operands }
         ensures written { OnOk result (IsWritten emitter.old emitter.new (emitter.old.code.operands)) }
         ensures placed { OnOk result (AddsPlaces emitter.old emitter.new
             (both (here place) (list_places arguments.now))) }

@@ -119,7 +119,7 @@ impl<F: Fn(&mut Emitter, &Expr, usize, bool) -> Result<(), CompileError>> Coder<
         match form {
             Form::Literal(literal) => emitter.literal(place, *literal),
             Form::Name(name) => emitter.load(place, *name),
-            Form::This => emitter.put(place, Op::LoadThis),
+            Form::This => emitter.put(place, Op::LoadThis, 0, 1),
             Form::Interpolated(pieces) => self.interpolated(emitter, place, pieces),
             Form::Array(items) => self.array(emitter, place, items),
             Form::Map(entries) => self.map(emitter, place, entries),
@@ -129,7 +129,7 @@ impl<F: Fn(&mut Emitter, &Expr, usize, bool) -> Result<(), CompileError>> Coder<
             Form::Access(root, steps) => self.access(emitter, place, root, steps),
             Form::Closure(index) => emitter.closure(place, *index),
             Form::Qualified(space, name) => emitter.qualified(place, *space, *name),
-            _ => emitter.put(place, Op::Unit),
+            _ => emitter.put(place, Op::Unit, 0, 1),
         }
     }
 
@@ -145,12 +145,12 @@ impl<F: Fn(&mut Emitter, &Expr, usize, bool) -> Result<(), CompileError>> Coder<
         ensures placed { OnOk result (AddsPlaces emitter.old emitter.new
             (both (here place) (list_places pieces.now))) }
     {
-        emitter.put(place, Op::InterpolateStart)?;
+        emitter.put(place, Op::InterpolateStart, 0, 1)?;
         for piece in pieces {
             self.expr(emitter, piece, true)?;
-            emitter.put(piece.place, Op::InterpolateAppend)?;
+            emitter.put(piece.place, Op::InterpolateAppend, 1, 0)?;
         }
-        emitter.put(place, Op::InterpolateEnd)
+        emitter.put(place, Op::InterpolateEnd, 1, 1)
     }
 
     fn array(&self, emitter: &mut Emitter, place: Place, items: &[Expr]) -> Result<(), CompileError>
@@ -162,7 +162,7 @@ impl<F: Fn(&mut Emitter, &Expr, usize, bool) -> Result<(), CompileError>> Coder<
     {
         self.all(emitter, items)?;
         let len = len_of(place, items.len())?;
-        emitter.put(place, Op::MakeArray(len))
+        emitter.put(place, Op::MakeArray(len), items.len(), 1)
     }
 
     fn map(
@@ -177,13 +177,13 @@ impl<F: Fn(&mut Emitter, &Expr, usize, bool) -> Result<(), CompileError>> Coder<
         ensures placed { OnOk result (AddsPlaces emitter.old emitter.new
             (both (here place) (entries_places entries.now))) }
     {
-        emitter.put(place, Op::Unit)?;
+        emitter.put(place, Op::Unit, 0, 1)?;
         for entry in entries {
             emitter.literal(entry.value.place, Literal::Text(entry.name))?;
             self.expr(emitter, &entry.value, true)?;
         }
         let len = len_of(place, entries.len())?;
-        emitter.put(place, Op::MakeMap(len))
+        emitter.put(place, Op::MakeMap(len), 2 * usize::from(len) + 1, 1)
     }
 
     fn prefixed(
@@ -227,7 +227,7 @@ impl<F: Fn(&mut Emitter, &Expr, usize, bool) -> Result<(), CompileError>> Coder<
     fn operation(&self, emitter: &mut Emitter, operation: &Operation) -> Result<(), CompileError>
         requires rules { Writes (F.pre self.now.writes) (F.post self.now.writes) self.now.depth }
         requires stands { Stands emitter.old }
-        requires room { emitter.old.code.frame.floor + 1 ≤ emitter.old.code.operands }
+        requires room { emitter.old.code.level.floor + 1 ≤ emitter.old.code.operands }
         ensures written { OnOk result (IsWritten emitter.old emitter.new (emitter.old.code.operands)) }
         ensures placed { OnOk result (AddsPlaces emitter.old emitter.new
             (operation_places operation.now)) }
@@ -248,14 +248,14 @@ impl<F: Fn(&mut Emitter, &Expr, usize, bool) -> Result<(), CompileError>> Coder<
     fn membership(&self, emitter: &mut Emitter, operation: &Operation) -> Result<(), CompileError>
         requires rules { Writes (F.pre self.now.writes) (F.post self.now.writes) self.now.depth }
         requires stands { Stands emitter.old }
-        requires room { emitter.old.code.frame.floor + 1 ≤ emitter.old.code.operands }
+        requires room { emitter.old.code.level.floor + 1 ≤ emitter.old.code.operands }
         ensures written { OnOk result (IsWritten emitter.old emitter.new (emitter.old.code.operands)) }
         ensures placed { OnOk result (AddsPlaces emitter.old emitter.new
             (operation_places operation.now)) }
     {
         let place = operation.place;
         self.expr(emitter, &operation.right, true)?;
-        emitter.put(place, Op::Rotate(1))?;
+        emitter.put(place, Op::Rotate(1), 2, 2)?;
         let contains = emitter.pools.name("contains")?;
         emitter.call(place, contains, 2)?;
         if operation.operator == Operator::NotIn {
@@ -273,7 +273,7 @@ impl<F: Fn(&mut Emitter, &Expr, usize, bool) -> Result<(), CompileError>> Coder<
     ) -> Result<(), CompileError>
         requires rules { Writes (F.pre self.now.writes) (F.post self.now.writes) self.now.depth }
         requires stands { Stands emitter.old }
-        requires room { emitter.old.code.frame.floor + 1 ≤ emitter.old.code.operands }
+        requires room { emitter.old.code.level.floor + 1 ≤ emitter.old.code.operands }
         ensures written { OnOk result (IsWritten emitter.old emitter.new (emitter.old.code.operands)) }
         ensures placed { OnOk result (AddsPlaces emitter.old emitter.new
             (operation_places operation.now)) }
@@ -285,10 +285,10 @@ impl<F: Fn(&mut Emitter, &Expr, usize, bool) -> Result<(), CompileError>> Coder<
         emitter.jump_where(place, is_short, short)?;
         self.expr(emitter, &operation.right, true)?;
         emitter.jump_where(operation.right.place, is_short, short)?;
-        emitter.put(place, Op::Bool(!is_short))?;
+        emitter.put(place, Op::Bool(!is_short), 0, 1)?;
         emitter.code.jump(place, end, height)?;
         emitter.code.bind(short)?;
-        emitter.put(place, Op::Bool(is_short))?;
+        emitter.put(place, Op::Bool(is_short), 0, 1)?;
         emitter.code.bind(end)
     }
 
@@ -296,7 +296,7 @@ impl<F: Fn(&mut Emitter, &Expr, usize, bool) -> Result<(), CompileError>> Coder<
     fn coalesce(&self, emitter: &mut Emitter, operation: &Operation) -> Result<(), CompileError>
         requires rules { Writes (F.pre self.now.writes) (F.post self.now.writes) self.now.depth }
         requires stands { Stands emitter.old }
-        requires room { emitter.old.code.frame.floor + 1 ≤ emitter.old.code.operands }
+        requires room { emitter.old.code.level.floor + 1 ≤ emitter.old.code.operands }
         ensures written { OnOk result (IsWritten emitter.old emitter.new (emitter.old.code.operands)) }
         ensures placed { OnOk result (AddsPlaces emitter.old emitter.new
             (operation_places operation.now)) }
@@ -306,8 +306,8 @@ impl<F: Fn(&mut Emitter, &Expr, usize, bool) -> Result<(), CompileError>> Coder<
         let end = emitter.code.label(height)?;
         emitter
             .code
-            .branch(place, Op::SkipIfNotUnit { target: end }, end)?;
-        emitter.put(place, Op::Pop)?;
+            .branch(place, Op::SkipIfNotUnit { target: end }, end, 0)?;
+        emitter.put(place, Op::Pop, 1, 0)?;
         self.expr(emitter, &operation.right, true)?;
         emitter.code.bind(end)
     }

@@ -161,7 +161,7 @@ impl<F: Fn(&mut Emitter, &Expr, usize, bool) -> Result<(), CompileError>> Coder<
         self.expr(emitter, items, true)?;
         emitter.code.begin_iterator(items.place)?;
         let counter = emitter.walked(place, counter)?;
-        emitter.put(place, Op::Unit)?;
+        emitter.put(place, Op::Unit, 0, 1)?;
         let slot = emitter.declare(place, Local::variable(name))?;
         let around = emitter.scope.around;
         let inner = emitter.begin_loop(end, is_wanted, true)?;
@@ -208,7 +208,7 @@ impl<F: Fn(&mut Emitter, &Expr, usize, bool) -> Result<(), CompileError>> Coder<
         match form {
             Form::Return(value) => {
                 self.optional(emitter, place, value)?;
-                emitter.code.stop(place, Op::Return, 0)
+                emitter.code.stop(place, Op::Return, 0, 0)
             }
             Form::Throw(Some(value)) => {
                 self.expr(emitter, value, true)?;

@@ -102,7 +102,7 @@ fn chunks(emitter: &mut Emitter, body: &[Expr], bodies: &[Body]) -> Result<Vec<H
     requires around { emitter.old.scope.around ≡ None }
     requires begun { BeginsChunk emitter.old.code }
     ensures closed { OnOk result (emitter.new.code.pending ≡ 0) }
-    ensures ended { OnOk result (1 ≤ emitter.new.code.frame.home) }
+    ensures ended { OnOk result (1 ≤ emitter.new.code.level.home) }
     ensures placed { OnOk result (AddsPlaces emitter.old emitter.new
         (both (script_places body.now) (bodies_places bodies.now))) }
 {
@@ -121,18 +121,18 @@ fn main_chunk(emitter: &mut Emitter, body: &[Expr]) -> Result<(), CompileError>
     requires around { emitter.old.scope.around ≡ None }
     requires begun { BeginsChunk emitter.old.code }
     ensures begun { OnOk result (BeginsChunk emitter.new.code) }
-    ensures ended { OnOk result (1 ≤ emitter.new.code.frame.home) }
+    ensures ended { OnOk result (1 ≤ emitter.new.code.level.home) }
     ensures placed { OnOk result (AddsPlaces emitter.old emitter.new (script_places body.now)) }
 {
     let Some((last, others)) = body.split_last() else {
-        emitter.put(Place::START, Op::Unit)?;
+        emitter.put(Place::START, Op::Unit, 0, 1)?;
         return ended(emitter, Place::START);
     };
     for statement in others {
-        emitter.put(statement.place, Op::Checkpoint)?;
+        emitter.put(statement.place, Op::Checkpoint, 0, 0)?;
         expr(emitter, statement, MAX_LEVELS, false)?;
     }
-    emitter.put(last.place, Op::Checkpoint)?;
+    emitter.put(last.place, Op::Checkpoint, 0, 0)?;
     expr(emitter, last, MAX_LEVELS, true)?;
     ended(emitter, last.place)
 }
@@ -140,7 +140,7 @@ fn main_chunk(emitter: &mut Emitter, body: &[Expr]) -> Result<(), CompileError>
 fn function_chunk(emitter: &mut Emitter, index: usize, body: &Body) -> Result<(), CompileError>
     requires { BeginsChunk emitter.old.code }
     ensures begun { OnOk result (BeginsChunk emitter.new.code) }
-    ensures ended { OnOk result (1 ≤ emitter.new.code.frame.home) }
+    ensures ended { OnOk result (1 ≤ emitter.new.code.level.home) }
     ensures placed { OnOk result (AddsPlaces emitter.old emitter.new (body_places body.now)) }
 {
     emitter.begin_function(index)?;
@@ -155,12 +155,12 @@ fn function_chunk(emitter: &mut Emitter, index: usize, body: &Body) -> Result<()
 
 /// The chunk ends with its value, and the next one begins.
 fn ended(emitter: &mut Emitter, place: Place) -> Result<(), CompileError>
-    requires floor { emitter.old.code.frame.floor ≤ emitter.old.code.operands }
+    requires floor { emitter.old.code.level.floor ≤ emitter.old.code.operands }
     requires closed { emitter.old.code.pending ≡ 0 }
     ensures begun { OnOk result (BeginsChunk emitter.new.code) }
-    ensures ended { OnOk result (1 ≤ emitter.new.code.frame.home) }
+    ensures ended { OnOk result (1 ≤ emitter.new.code.level.home) }
     ensures placed { OnOk result (AddsPlaces emitter.old emitter.new (here place)) }
 {
-    emitter.code.stop(place, Op::Return, 0)?;
+    emitter.code.stop(place, Op::Return, 0, 0)?;
     emitter.code.end_chunk()
 }

@@ -1,6 +1,6 @@
 //! The code of switches.
 ghost use Rattle.std.specs.Prelude.{◌≡◌, IfSome, true, ◌+◌, ◌-◌, ◌<◌, ◌≤◌, OnOk, Some, slice_get};
-ghost use Rattle.grain_builder.specs.Assembler.{StaysIn, spot};
+ghost use Rattle.grain_builder.specs.Unfinished.{StaysIn, spot};
 ghost use Rattle.rhai_emit.specs.Loops.{count};
 ghost use Rattle.rhai_compile.specs.Writes.{Writes};
 ghost use Rattle.rhai_emit.specs.Rules.{IsWritten, Stands, AddsPlaces};
@@ -36,7 +36,7 @@ impl<F: Fn(&mut Emitter, &Expr, usize, bool) -> Result<(), CompileError>> Coder<
             self.arm(emitter, arms, &labels, (index, arm), is_wanted)?;
         }
         emitter.code.bind(labels.none)?;
-        emitter.put(place, Op::Pop)?;
+        emitter.put(place, Op::Pop, 1, 0)?;
         emitter.nothing(place, is_wanted)?;
         emitter.code.bind(labels.end)
     }
@@ -52,14 +52,14 @@ impl<F: Fn(&mut Emitter, &Expr, usize, bool) -> Result<(), CompileError>> Coder<
     ) -> Result<(), CompileError>
         requires rules { Writes (F.pre self.now.writes) (F.post self.now.writes) self.now.depth }
         requires stands { Stands emitter.old }
-        requires room { emitter.old.code.frame.floor + 1 ≤ emitter.old.code.operands }
+        requires room { emitter.old.code.level.floor + 1 ≤ emitter.old.code.operands }
         requires arms { AreArms labels.now emitter.old.code.operands emitter.old.code }
         requires within { labels.now.none + which.0 < labels.now.first }
         requires pending { emitter.old.code.pending + which.0 ≡ labels.now.first + 1 }
         requires end { slice_get emitter.old.code.labels labels.now.end
-            ≡ Some (spot (emitter.old.code.operands - 1 + count is_wanted) emitter.old.code.frame) }
+            ≡ Some (spot (emitter.old.code.operands - 1 + count is_wanted) emitter.old.code.level) }
         ensures operands { OnOk result (emitter.new.code.operands ≡ emitter.old.code.operands) }
-        ensures frame { OnOk result (emitter.new.code.frame ≡ emitter.old.code.frame) }
+        ensures level { OnOk result (emitter.new.code.level ≡ emitter.old.code.level) }
         ensures labels { OnOk result (StaysIn emitter.old.code.labels emitter.new.code.labels) }
         ensures outers { OnOk result (StaysIn emitter.old.code.outers emitter.new.code.outers) }
         ensures pending { OnOk result (emitter.new.code.pending + which.entry.0 ≡ labels.now.first) }
@@ -71,7 +71,7 @@ impl<F: Fn(&mut Emitter, &Expr, usize, bool) -> Result<(), CompileError>> Coder<
         let operands = emitter.code.operands();
         emitter.code.bind(labels.arm(index))?;
         self.condition(emitter, arms, labels, index)?;
-        emitter.put(arm.place, Op::Pop)?;
+        emitter.put(arm.place, Op::Pop, 1, 0)?;
         self.expr(emitter, &arm.body, is_wanted)?;
         emitter.code.jump(arm.place, labels.end, operands)
     }
@@ -86,7 +86,7 @@ impl<F: Fn(&mut Emitter, &Expr, usize, bool) -> Result<(), CompileError>> Coder<
     ) -> Result<(), CompileError>
         requires rules { Writes (F.pre self.now.writes) (F.post self.now.writes) self.now.depth }
         requires stands { Stands emitter.old }
-        requires room { emitter.old.code.frame.floor + 1 ≤ emitter.old.code.operands }
+        requires room { emitter.old.code.level.floor + 1 ≤ emitter.old.code.operands }
         requires arms { AreArms labels.now emitter.old.code.operands emitter.old.code }
         ensures written { OnOk result (IsWritten emitter.old emitter.new (emitter.old.code.operands)) }
         ensures placed { OnOk result (AddsPlaces emitter.old emitter.new (arms_places arms.now)) }

@@ -4,7 +4,7 @@ use Rattle.std.specs.Prelude.{slice_get}
 use Rattle.std.specs.List.{Contains}
 use Rattle.std.proofs.lemmas.Bool.{cases_lt}
 use Rattle.std.proofs.lemmas.List.Elements.{All-contains, Contains-push_cases}
-use Rattle.grain_builder.specs.Assembler.{StaysIn, Frame, Assembler, spot}
+use Rattle.grain_builder.specs.Unfinished.{StaysIn, Level, Unfinished, spot}
 use Rattle.grain_builder.specs.Assembled.{targets_of}
 use Rattle.grain_builder.specs.declared.assembler.TableTargets.{TableTargets}
 use Rattle.rhai_emit.specs.Switches.{AreArms, IsArm, LeadToArms}
@@ -18,17 +18,17 @@ one_more {A} f xs ys low n m keeps have is here k above below = elim (cases_lt k
 ]
 
 -- they stay what they are while code is written
-pub arms_after : (l : Labels) (n : ℕ) (old new : Assembler) → AreArms l n old → new.frame ≡ old.frame → StaysIn old.labels new.labels → StaysIn old.outers new.outers → AreArms l n new
-arms_after l n old new arms frame labels outers = record {
+pub arms_after : (l : Labels) (n : ℕ) (old new : Unfinished) → AreArms l n old → new.level ≡ old.level → StaysIn old.labels new.labels → StaysIn old.outers new.outers → AreArms l n new
+arms_after l n old new arms level labels outers = record {
   ordered = arms.ordered;
-  arms = λ label low high. labels label _ (arms.arms label low high) ∙ ap (λ (v : Frame). Some (spot n v)) (sym frame);
+  arms = λ label low high. labels label _ (arms.arms label low high) ∙ ap (λ (v : Level). Some (spot n v)) (sym level);
   outers = λ label low high. outers label label (arms.outers label low high);
   last = outers l.none (l.end + 1) arms.last;
 }
 
 -- what leads to them finds what is found there
-pub lead_to_arms : (l : Labels) (n : ℕ) (code : Assembler) (t : TableTargets) → AreArms l n code → LeadToArms l t → (label : ℕ) → Contains (targets_of t) label → slice_get code.labels label ≡ Some (spot n code.frame)
+pub lead_to_arms : (l : Labels) (n : ℕ) (code : Unfinished) (t : TableTargets) → AreArms l n code → LeadToArms l t → (label : ℕ) → Contains (targets_of t) label → slice_get code.labels label ≡ Some (spot n code.level)
 lead_to_arms l n code t arms within label has = elim (Contains-push_cases t.cases.items t.default label has) [
   | inl case ↦ let arm = All-contains (IsArm l) t.cases.items label within.cases case in arms.arms label arm.0 arm.1
-  | inr is ↦ subst (λ (x : ℕ). slice_get code.labels x ≡ Some (spot n code.frame)) is (arms.arms t.default within.default.0 within.default.1)
+  | inr is ↦ subst (λ (x : ℕ). slice_get code.labels x ≡ Some (spot n code.level)) is (arms.arms t.default within.default.0 within.default.1)
 ]

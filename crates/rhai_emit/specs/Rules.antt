@@ -1,7 +1,7 @@
 -- What rules that write code find, and what they leave.
 use Rattle.std.specs.Prelude.{◌≡◌, ℕ, ◌≤◌, Bool, true, false}
 use Rattle.std.specs.List.{list_all}
-use Rattle.grain_builder.specs.Assembler.{StaysIn}
+use Rattle.grain_builder.specs.Unfinished.{StaysIn}
 use Rattle.rhai_emit.specs.Loops.{CanLeave}
 use Rattle.rhai_emit.specs.Places.{Places, pass}
 use Rattle.rhai_lexer.specs.declared.error.Place.{Place}
@@ -9,14 +9,14 @@ use Rattle.rhai_emit.specs.declared.emitter.Emitter.{Emitter}
 
 -- What is on the stacks stays, and the innermost loop can be left.
 pub record Stands (m : Emitter) : Type 0 where
-  pub floor : m.code.frame.floor ≤ m.code.operands
-  pub loop : CanLeave m.scope.around m.code.frame m.code.labels
+  pub floor : m.code.level.floor ≤ m.code.operands
+  pub loop : CanLeave m.scope.around m.code.level m.code.labels
 
 -- Code was written after which there are this many operands. What surrounds it is as it was, and so are the labels that were
 -- there, those that are open, and the innermost loop.
 pub record IsWritten (old new : Emitter) (n : ℕ) : Type 0 where
   pub operands : new.code.operands ≡ n
-  pub frame : new.code.frame ≡ old.code.frame
+  pub level : new.code.level ≡ old.code.level
   pub labels : StaysIn old.code.labels new.code.labels
   pub outers : StaysIn old.code.outers new.code.outers
   pub pending : new.code.pending ≡ old.code.pending
@@ -24,7 +24,7 @@ pub record IsWritten (old new : Emitter) (n : ℕ) : Type 0 where
 
 -- Code was written that leads away. What is found after it is open.
 pub record LeadsAway (old new : Emitter) : Type 0 where
-  pub home : new.code.frame.home ≡ old.code.frame.home
+  pub home : new.code.level.home ≡ old.code.level.home
   pub labels : StaysIn old.code.labels new.code.labels
   pub outers : StaysIn old.code.outers new.code.outers
   pub pending : new.code.pending ≡ old.code.pending

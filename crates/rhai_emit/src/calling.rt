@@ -99,7 +99,7 @@ impl Emitter {
         slot: u16,
         argc: u8,
     ) -> Result<(), CompileError>
-        requires { self.old.code.frame.floor + (argc - 1) ≤ self.old.code.operands }
+        requires { self.old.code.level.floor + (argc - 1) ≤ self.old.code.operands }
         ensures written { OnOk result (IsWritten self.old self.new (self.old.code.operands - (argc - 1) + 1)) }
         ensures placed { OnOk result (AddsPlaces self.old self.new (here place)) }
     {
@@ -109,7 +109,7 @@ impl Emitter {
             receiver: Receiver::Local(slot),
             capture_parent_scope: false,
         };
-        self.put(place, call)
+        self.put(place, call, usize::from(argc.saturating_sub(1)), 1)
     }
 
     /// The variable on which a method calls a function pointer, so that the function may change it: a local one that is no
@@ -131,7 +131,7 @@ impl Emitter {
         argc: u8,
         is_method: bool,
     ) -> Result<(), CompileError>
-        requires { self.old.code.frame.floor + argc + 1 ≤ self.old.code.operands }
+        requires { self.old.code.level.floor + argc + 1 ≤ self.old.code.operands }
         ensures written { OnOk result (IsWritten self.old self.new (self.old.code.operands - argc)) }
         ensures placed { OnOk result (AddsPlaces self.old self.new (here place)) }
     {
@@ -141,7 +141,7 @@ impl Emitter {
             capture_parent_scope: false,
             receiver: None,
         };
-        self.put(place, call)
+        self.put(place, call, usize::from(argc) + 1, 1)
     }
 
     /// Calls the function pointer below this many arguments on a variable. If the variable has a function pointer itself,
@@ -152,7 +152,7 @@ impl Emitter {
         receiver: Receiver,
         argc: u8,
     ) -> Result<(), CompileError>
-        requires { self.old.code.frame.floor + argc + 1 ≤ self.old.code.operands }
+        requires { self.old.code.level.floor + argc + 1 ≤ self.old.code.operands }
         ensures written { OnOk result (IsWritten self.old self.new (self.old.code.operands - argc)) }
         ensures placed { OnOk result (AddsPlaces self.old self.new (here place)) }
     {
@@ -162,30 +162,30 @@ impl Emitter {
             capture_parent_scope: false,
             receiver: Some(receiver),
         };
-        self.put(place, call)
+        self.put(place, call, usize::from(argc) + 1, 1)
     }
 
     /// Binds this many arguments to the function pointer below them.
     pub fn curry(&mut self, place: Place, argc: u8) -> Result<(), CompileError>
-        requires { self.old.code.frame.floor + argc + 1 ≤ self.old.code.operands }
+        requires { self.old.code.level.floor + argc + 1 ≤ self.old.code.operands }
         ensures written { OnOk result (IsWritten self.old self.new (self.old.code.operands - argc)) }
         ensures placed { OnOk result (AddsPlaces self.old self.new (here place)) }
     {
-        self.put(place, Op::Curry(argc))
+        self.put(place, Op::Curry(argc), usize::from(argc) + 1, 1)
     }
 
     /// A pointer to a closure. Each variable that it captures becomes a shared value, which is bound to the pointer.
     pub fn closure(&mut self, place: Place, index: usize) -> Result<(), CompileError>
-        requires { self.old.code.frame.floor ≤ self.old.code.operands }
+        requires { self.old.code.level.floor ≤ self.old.code.operands }
         ensures written { OnOk result (IsWritten self.old self.new (self.old.code.operands + 1)) }
         ensures placed { OnOk result (AddsPlaces self.old self.new (here place)) }
     {
         let Some(signature) = self.signatures.get(index) else {
-            return self.put(place, Op::Unit);
+            return self.put(place, Op::Unit, 0, 1);
         };
         let name = signature.name;
         let (captured, slots) = self.captured(index)?;
-        self.put(place, Op::MakeClosure(name))?;
+        self.put(place, Op::MakeClosure(name), 0, 1)?;
         self.bind_captured(place, &slots)?;
         if let Some(signature) = self.signatures.get_mut(index) {
             signature.captured = captured;
@@ -195,7 +195,7 @@ impl Emitter {
 
     /// Shares the variables in these slots, and binds them to the pointer on top.
     fn bind_captured(&mut self, place: Place, slots: &[u16]) -> Result<(), CompileError>
-        requires { self.old.code.frame.floor + 1 ≤ self.old.code.operands }
+        requires { self.old.code.level.floor + 1 ≤ self.old.code.operands }
         ensures written { OnOk result (IsWritten self.old self.new self.old.code.operands) }
         ensures placed { OnOk result (AddsPlaces self.old self.new (here place)) }
     {
@@ -204,8 +204,8 @@ impl Emitter {
             return Ok(());
         }
         for slot in slots {
-            self.put(place, Op::Share(*slot))?;
-            self.put(place, Op::LoadShared(*slot))?;
+            self.put(place, Op::Share(*slot), 0, 0)?;
+            self.put(place, Op::LoadShared(*slot), 0, 1)?;
         }
         self.curry(place, argc)
     }

@@ -31,20 +31,21 @@ impl Emitter {
 
     /// Moves the value below this many operands above them.
     pub fn raise(&mut self, place: Place, operands: u16) -> Result<(), CompileError>
-        requires { self.old.code.frame.floor + operands + 1 ≤ self.old.code.operands }
+        requires { self.old.code.level.floor + operands + 1 ≤ self.old.code.operands }
         ensures written { OnOk result (IsWritten self.old self.new self.old.code.operands) }
         ensures placed { OnOk result (AddsPlaces self.old self.new (here place)) }
     {
         let depth = argc_of(place, usize::from(operands))?;
+        let turned = usize::from(depth) + 1;
         'turns: for _turn in 0..operands {
-            self.put(place, Op::Rotate(depth))?;
+            self.put(place, Op::Rotate(depth), turned, turned)?;
         }
         Ok(())
     }
 
     /// A chain, which takes its operands, its root and what it assigns, and gives one.
     pub fn chain(&mut self, place: Place, chain: Chain) -> Result<(), CompileError>
-        requires { self.old.code.frame.floor + consumed chain ≤ self.old.code.operands }
+        requires { self.old.code.level.floor + consumed chain ≤ self.old.code.operands }
         ensures written { OnOk result (IsWritten self.old self.new (self.old.code.operands - consumed chain + 1)) }
         ensures placed { OnOk result (AddsPlaces self.old self.new (here place)) }
     {

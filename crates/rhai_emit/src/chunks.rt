@@ -1,6 +1,6 @@
 //! The code of the top level and of functions begins.
 ghost use Rattle.std.specs.Prelude.{◌≡◌, [], IfOk, None, OnOk, true};
-ghost use Rattle.grain_builder.specs.Assembler.{fresh};
+ghost use Rattle.grain_builder.specs.Unfinished.{fresh};
 
 use crate::emitter::{Emitter, Signature};
 use crate::options::Options;
@@ -25,7 +25,7 @@ impl Emitter {
         ensures around { result.scope.around ≡ None }
         ensures code { result.code ≡ record {
           operands = 0;
-          frame = fresh 0;
+          level = fresh 0;
           labels = [];
           outers = [];
           pending = 0;

@@ -3,7 +3,7 @@
 //! An arm with a condition is followed by a switch among the arms after it, to which a condition leads that doesn't hold. The
 //! subject stays on the stack until an arm is taken.
 ghost use Rattle.std.specs.Prelude.{◌≡◌, ◌+◌, ◌-◌, ◌≤◌, IfOk, OnOk, Some, false, length, slice_get};
-ghost use Rattle.grain_builder.specs.Assembler.{spot};
+ghost use Rattle.grain_builder.specs.Unfinished.{spot};
 ghost use Rattle.rhai_emit.specs.Loops.{count};
 ghost use Rattle.rhai_emit.specs.Rules.{IsWritten, AddsPlaces};
 ghost use Rattle.rhai_emit.specs.Switches.{AreArms, LeadToArms};
@@ -85,7 +85,7 @@ fn has_any(cases: &[Case]) -> bool {
 impl Emitter {
     /// A label for each arm, and two for the end. The subject is on top.
     pub fn arm_labels(&mut self, arms: &[Arm], is_wanted: bool) -> Result<Labels, CompileError>
-        requires { self.old.code.frame.floor + 1 ≤ self.old.code.operands }
+        requires { self.old.code.level.floor + 1 ≤ self.old.code.operands }
         ensures written { OnOk result (IsWritten self.old
             (record self.new { code = record self.new.code { pending = self.old.code.pending } })
             self.old.code.operands) }
@@ -93,7 +93,7 @@ impl Emitter {
         ensures count { IfOk result (λ l. l.first ≡ l.none + length arms.now) }
         ensures pending { IfOk result (λ l. self.new.code.pending ≡ l.first + 1) }
         ensures end { IfOk result (λ l. slice_get self.new.code.labels l.end
-            ≡ Some (spot (self.old.code.operands - 1 + count is_wanted) self.old.code.frame)) }
+            ≡ Some (spot (self.old.code.operands - 1 + count is_wanted) self.old.code.level)) }
         ensures outer { IfOk result (λ l. slice_get self.new.code.outers l.end ≡ Some self.old.code.pending) }
         ensures places { OnOk result (self.new.code.places ≡ self.old.code.places) }
     {
@@ -115,7 +115,7 @@ impl Emitter {
         labels: &Labels,
         from: usize,
     ) -> Result<(), CompileError>
-        requires room { self.old.code.frame.floor + 1 ≤ self.old.code.operands }
+        requires room { self.old.code.level.floor + 1 ≤ self.old.code.operands }
         requires arms { AreArms labels.now self.old.code.operands self.old.code }
         ensures written { OnOk result (IsWritten self.old self.new self.old.code.operands) }
         ensures loose { OnOk result (self.new.code.fixed ≡ false) }

@@ -1,7 +1,7 @@
 //! Handlers of faults, and faults that are raised again.
 ghost use Rattle.std.specs.Prelude.{◌≡◌, ◌+◌, ◌-◌, ◌≤◌, OnOk, Some, length, slice_get};
 ghost use Rattle.grain_rules.specs.Counts.{without_last};
-ghost use Rattle.grain_builder.specs.Assembler.{SameLabels, spot, frame_with_handler};
+ghost use Rattle.grain_builder.specs.Unfinished.{SameLabels, spot, level_with_handler};
 ghost use Rattle.rhai_emit.specs.Rules.{LeadsAway, IsWritten, Stands, AddsPlaces};
 ghost use Rattle.rhai_emit.specs.Places.{here};
 
@@ -20,11 +20,11 @@ impl Emitter {
     pub fn arm(&mut self, place: Place, target: u32, name: Option<u32>) -> Result<(), CompileError>
         requires stands { Stands self.old }
         requires there { slice_get self.old.code.labels target
-            ≡ Some (spot self.old.code.operands (frame_with_handler self.old.code.operands self.old.code.frame)) }
+            ≡ Some (spot self.old.code.operands (level_with_handler self.old.code.operands self.old.code.level)) }
         ensures stands { OnOk result (Stands self.new) }
         ensures operands { OnOk result (self.new.code.operands ≡ self.old.code.operands) }
-        ensures frame { OnOk result (self.new.code.frame
-            ≡ frame_with_handler self.old.code.operands self.old.code.frame) }
+        ensures level { OnOk result (self.new.code.level
+            ≡ level_with_handler self.old.code.operands self.old.code.level) }
         ensures labels { OnOk result (SameLabels self.old.code self.new.code) }
         ensures scope { OnOk result (self.new.scope ≡ self.old.scope) }
         ensures placed { OnOk result (AddsPlaces self.old self.new (here place)) }
@@ -55,7 +55,7 @@ impl Emitter {
         catch: Catch,
         fault: Option<u32>,
     ) -> Result<(), CompileError>
-        requires { self.old.code.frame.floor ≤ self.old.code.operands }
+        requires { self.old.code.level.floor ≤ self.old.code.operands }
         ensures written { OnOk result (IsWritten self.old self.new self.old.code.operands) }
         ensures placed { OnOk result (AddsPlaces self.old self.new (here place)) }
     {
@@ -84,33 +84,33 @@ impl Emitter {
         fault: u32,
         binding: Binding,
     ) -> Result<u16, CompileError>
-        requires { self.old.code.frame.floor ≤ self.old.code.operands }
+        requires { self.old.code.level.floor ≤ self.old.code.operands }
         ensures written { OnOk result (IsWritten self.old self.new self.old.code.operands) }
         ensures placed { OnOk result (AddsPlaces self.old self.new (here place)) }
     {
-        self.put(place, Op::LoadNamed(fault))?;
+        self.put(place, Op::LoadNamed(fault), 0, 1)?;
         self.declare(place, Local::variable(binding))
     }
 
     /// `throw` without a value: it raises the fault again that the innermost `catch` has, and else throws unit.
     pub fn throw_again(&mut self, place: Place) -> Result<(), CompileError>
-        requires { self.old.code.frame.floor ≤ self.old.code.operands }
+        requires { self.old.code.level.floor ≤ self.old.code.operands }
         ensures away { OnOk result (LeadsAway self.old self.new) }
         ensures placed { OnOk result (AddsPlaces self.old self.new (here place)) }
     {
         match self.scope.caught {
-            Some(slot) => self.put(place, Op::LoadLocal(slot))?,
-            None => self.put(place, Op::Unit)?,
+            Some(slot) => self.put(place, Op::LoadLocal(slot), 0, 1)?,
+            None => self.put(place, Op::Unit, 0, 1)?,
         }
         self.throw(place)
     }
 
     /// Throws the value on top.
     pub fn throw(&mut self, place: Place) -> Result<(), CompileError>
-        requires { self.old.code.frame.floor + 1 ≤ self.old.code.operands }
+        requires { self.old.code.level.floor + 1 ≤ self.old.code.operands }
         ensures away { OnOk result (LeadsAway self.old self.new) }
         ensures placed { OnOk result (AddsPlaces self.old self.new (here place)) }
     {
-        self.code.stop(place, Op::Throw, 0)
+        self.code.stop(place, Op::Throw, 1, 0)
     }
 }

@@ -1,6 +1,6 @@
 //! Loops: how they begin, and what is dropped when they are left.
 ghost use Rattle.std.specs.Prelude.{◌≡◌, ◌+◌, ◌-◌, ◌≤◌, IfOk, OnOk, Some, false, slice_get, true};
-ghost use Rattle.grain_builder.specs.Assembler.{StaysIn, SameLabels, guarded, spot, frame_without_iterator};
+ghost use Rattle.grain_builder.specs.Unfinished.{StaysIn, SameLabels, guarded, spot, level_without_iterator};
 ghost use Rattle.rhai_emit.specs.Loops.{IsBare, count};
 ghost use Rattle.rhai_emit.specs.Rules.{LeadsAway, IsWritten, Stands, AddsPlaces};
 ghost use Rattle.rhai_emit.specs.Places.{here};
@@ -19,21 +19,21 @@ impl Emitter {
         is_wanted: bool,
         walks: bool,
     ) -> Result<Loop, CompileError>
-        requires floor { self.old.code.frame.floor ≤ self.old.code.operands }
-        requires least { self.old.code.frame.least + count walks ≤ self.old.code.frame.iterators }
+        requires floor { self.old.code.level.floor ≤ self.old.code.operands }
+        requires least { self.old.code.level.least + count walks ≤ self.old.code.level.iterators }
         requires ends { slice_get self.old.code.labels end ≡ Some (record {
           operands = self.old.code.operands + count is_wanted;
-          iterators = self.old.code.frame.iterators - count walks;
-          bases = self.old.code.frame.bases;
-          home = self.old.code.frame.home;
+          iterators = self.old.code.level.iterators - count walks;
+          bases = self.old.code.level.bases;
+          home = self.old.code.level.home;
         }) }
         ensures operands { OnOk result (self.new.code.operands ≡ self.old.code.operands) }
-        ensures frame { OnOk result (self.new.code.frame
-            ≡ guarded self.old.code.operands self.old.code.frame) }
+        ensures level { OnOk result (self.new.code.level
+            ≡ guarded self.old.code.operands self.old.code.level) }
         ensures labels { OnOk result (StaysIn self.old.code.labels self.new.code.labels) }
         ensures outers { OnOk result (StaysIn self.old.code.outers self.new.code.outers) }
         ensures next { IfOk result (λ l. slice_get self.new.code.labels l.next
-            ≡ Some (spot self.old.code.operands self.old.code.frame)) }
+            ≡ Some (spot self.old.code.operands self.old.code.level)) }
         ensures outer { IfOk result (λ l. slice_get self.new.code.outers l.next
             ≡ Some self.old.code.pending) }
         ensures pending { IfOk result (λ l. self.new.code.pending ≡ l.next + 1) }
@@ -61,14 +61,14 @@ impl Emitter {
     pub fn bind(&mut self, label: u32) -> Result<(), CompileError>
         requires stands { Stands self.old }
         requires here { slice_get self.old.code.labels label
-            ≡ Some (spot self.old.code.operands self.old.code.frame) }
+            ≡ Some (spot self.old.code.operands self.old.code.level) }
         requires innermost { self.old.code.pending ≡ label + 1 }
         ensures stands { OnOk result (Stands self.new) }
         ensures pending { OnOk result (slice_get self.old.code.outers label ≡ Some self.new.code.pending) }
         ensures labels { OnOk result (self.new.code.labels ≡ self.old.code.labels) }
         ensures outers { OnOk result (self.new.code.outers ≡ self.old.code.outers) }
         ensures operands { OnOk result (self.new.code.operands ≡ self.old.code.operands) }
-        ensures frame { OnOk result (self.new.code.frame ≡ self.old.code.frame) }
+        ensures level { OnOk result (self.new.code.level ≡ self.old.code.level) }
         ensures scope { OnOk result (self.new.scope ≡ self.old.scope) }
         ensures places { OnOk result (self.new.code.places ≡ self.old.code.places) }
     {
@@ -80,19 +80,19 @@ impl Emitter {
     pub fn turn(&mut self, place: Place, label: u32) -> Result<(), CompileError>
         requires stands { Stands self.old }
         requires here { slice_get self.old.code.labels label
-            ≡ Some (spot self.old.code.operands self.old.code.frame) }
+            ≡ Some (spot self.old.code.operands self.old.code.level) }
         requires innermost { self.old.code.pending ≡ label + 1 }
         ensures stands { OnOk result (Stands self.new) }
         ensures pending { OnOk result (slice_get self.old.code.outers label ≡ Some self.new.code.pending) }
         ensures labels { OnOk result (StaysIn self.old.code.labels self.new.code.labels) }
         ensures outers { OnOk result (StaysIn self.old.code.outers self.new.code.outers) }
         ensures operands { OnOk result (self.new.code.operands ≡ self.old.code.operands) }
-        ensures frame { OnOk result (self.new.code.frame ≡ self.old.code.frame) }
+        ensures level { OnOk result (self.new.code.level ≡ self.old.code.level) }
         ensures around { OnOk result (self.new.scope.around ≡ self.old.scope.around) }
         ensures placed { OnOk result (AddsPlaces self.old self.new (here place)) }
     {
         self.bind(label)?;
-        self.put(place, Op::Tick)
+        self.put(place, Op::Tick, 0, 0)
     }
 
     /// The next item becomes the value of the variable in a slot, or the iterator ends and the loop goes to its exit.
@@ -102,16 +102,16 @@ impl Emitter {
         exit: u32,
         slots: (u16, Option<u16>),
     ) -> Result<(), CompileError>
-        requires room { self.old.code.frame.floor ≤ self.old.code.operands }
-        requires one { self.old.code.frame.least + 1 ≤ self.old.code.frame.iterators }
+        requires room { self.old.code.level.floor ≤ self.old.code.operands }
+        requires one { self.old.code.level.least + 1 ≤ self.old.code.level.iterators }
         requires there { slice_get self.old.code.labels exit
-            ≡ Some (spot self.old.code.operands (frame_without_iterator self.old.code.frame)) }
+            ≡ Some (spot self.old.code.operands (level_without_iterator self.old.code.level)) }
         ensures written { OnOk result (IsWritten self.old self.new self.old.code.operands) }
         ensures placed { OnOk result (AddsPlaces self.old self.new (here place)) }
     {
         let (slot, counter) = slots;
         self.code.advance(place, exit, counter)?;
-        self.put(place, Op::StoreShared(slot))
+        self.put(place, Op::StoreShared(slot), 1, 0)
     }
 
     /// The loop that `break` and `continue` are about.
@@ -159,7 +159,7 @@ impl Emitter {
         requires stands { Stands self.old }
         requires is { self.old.scope.around ≡ Some around }
         requires wanted { around.is_wanted ≡ true }
-        requires room { self.old.code.frame.floor + 1 ≤ self.old.code.operands }
+        requires room { self.old.code.level.floor + 1 ≤ self.old.code.operands }
         ensures away { OnOk result (LeadsAway self.old self.new) }
         ensures placed { OnOk result (AddsPlaces self.old self.new (here place)) }
     {
@@ -175,10 +175,10 @@ impl Emitter {
     fn disarm_down(&mut self, place: Place, around: Loop) -> Result<(), CompileError>
         requires stands { Stands self.old }
         requires is { self.old.scope.around ≡ Some around }
-        ensures bare { OnOk result (IsBare around self.new.code.frame self.new.code.labels) }
+        ensures bare { OnOk result (IsBare around self.new.code.level self.new.code.labels) }
         ensures operands { OnOk result (self.new.code.operands ≡ self.old.code.operands) }
-        ensures height { around.height ≤ self.old.code.frame.floor }
-        ensures home { OnOk result (self.new.code.frame.home ≡ self.old.code.frame.home) }
+        ensures height { around.height ≤ self.old.code.level.floor }
+        ensures home { OnOk result (self.new.code.level.home ≡ self.old.code.level.home) }
         ensures labels { OnOk result (SameLabels self.old.code self.new.code) }
         ensures scope { OnOk result (self.new.scope ≡ self.old.scope) }
         ensures placed { OnOk result (AddsPlaces self.old self.new (here place)) }
@@ -189,10 +189,10 @@ impl Emitter {
 
     /// Drops the iterator of a loop that has one.
     fn drop_walk(&mut self, place: Place, walks: bool) -> Result<(), CompileError>
-        requires { self.old.code.frame.least + count walks ≤ self.old.code.frame.iterators }
+        requires { self.old.code.level.least + count walks ≤ self.old.code.level.iterators }
         ensures operands { OnOk result (self.new.code.operands ≡ self.old.code.operands) }
-        ensures frame { OnOk result (self.new.code.frame ≡ record self.old.code.frame {
-          iterators = self.old.code.frame.iterators - count walks;
+        ensures level { OnOk result (self.new.code.level ≡ record self.old.code.level {
+          iterators = self.old.code.level.iterators - count walks;
         }) }
         ensures labels { OnOk result (SameLabels self.old.code self.new.code) }
         ensures scope { OnOk result (self.new.scope ≡ self.old.scope) }
@@ -210,7 +210,7 @@ impl Emitter {
         place: Place,
         counter: Option<Binding>,
     ) -> Result<Option<u16>, CompileError>
-        requires { self.old.code.frame.floor ≤ self.old.code.operands }
+        requires { self.old.code.level.floor ≤ self.old.code.operands }
         ensures written { OnOk result (IsWritten self.old self.new self.old.code.operands) }
         ensures placed { OnOk result (AddsPlaces self.old self.new (here place)) }
     {

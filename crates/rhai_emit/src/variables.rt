@@ -51,7 +51,7 @@ impl Emitter {
 
     /// The value of `global::NAME`.
     pub fn qualified(&mut self, place: Place, space: u32, name: u32) -> Result<(), CompileError>
-        requires { self.old.code.frame.floor ≤ self.old.code.operands }
+        requires { self.old.code.level.floor ≤ self.old.code.operands }
         ensures written { OnOk result (IsWritten self.old self.new (self.old.code.operands + 1)) }
         ensures placed { OnOk result (AddsPlaces self.old self.new (here place)) }
     {
@@ -64,19 +64,19 @@ impl Emitter {
 
     /// The value of a variable.
     pub fn load(&mut self, place: Place, name: u32) -> Result<(), CompileError>
-        requires { self.old.code.frame.floor ≤ self.old.code.operands }
+        requires { self.old.code.level.floor ≤ self.old.code.operands }
         ensures written { OnOk result (IsWritten self.old self.new (self.old.code.operands + 1)) }
         ensures placed { OnOk result (AddsPlaces self.old self.new (here place)) }
     {
         match self.find(place, name)? {
-            Some(found) => self.put(place, Op::LoadLocal(found.slot)),
-            None => self.put(place, Op::LoadNamed(name)),
+            Some(found) => self.put(place, Op::LoadLocal(found.slot), 0, 1),
+            None => self.put(place, Op::LoadNamed(name), 0, 1),
         }
     }
 
     /// The value that was given last becomes a variable.
     pub fn declare(&mut self, place: Place, local: Local) -> Result<u16, CompileError>
-        requires { self.old.code.frame.floor + 1 ≤ self.old.code.operands }
+        requires { self.old.code.level.floor + 1 ≤ self.old.code.operands }
         ensures written { OnOk result (IsWritten self.old self.new (self.old.code.operands - 1)) }
         ensures placed { OnOk result (AddsPlaces self.old self.new (here place)) }
     {
@@ -86,7 +86,7 @@ impl Emitter {
             is_const: local.is_const,
             is_global: false,
         };
-        self.put(place, declare)?;
+        self.put(place, declare, 1, 0)?;
         Ok(slot)
     }
 
@@ -98,7 +98,7 @@ impl Emitter {
         name: u32,
         op: Option<u32>,
     ) -> Result<(), CompileError>
-        requires { self.old.code.frame.floor + 1 ≤ self.old.code.operands }
+        requires { self.old.code.level.floor + 1 ≤ self.old.code.operands }
         ensures written { OnOk result (IsWritten self.old self.new (self.old.code.operands - 1)) }
         ensures placed { OnOk result (AddsPlaces self.old self.new (here place)) }
     {
@@ -112,15 +112,15 @@ impl Emitter {
                     var_name: name,
                     op,
                 };
-                self.put(place, assign)
+                self.put(place, assign, 1, 0)
             }
-            None => self.put(place, Op::AssignNamed { name, op }),
+            None => self.put(place, Op::AssignNamed { name, op }, 1, 0),
         }
     }
 
     /// The variables down to this many are dropped.
     pub fn leave(&mut self, place: Place, locals: usize) -> Result<(), CompileError>
-        requires { self.old.code.frame.floor ≤ self.old.code.operands }
+        requires { self.old.code.level.floor ≤ self.old.code.operands }
         ensures written { OnOk result (IsWritten self.old self.new self.old.code.operands) }
         ensures placed { OnOk result (AddsPlaces self.old self.new (here place)) }
     {
@@ -133,11 +133,11 @@ impl Emitter {
 
     /// Drops the variables down to this many on a path that leaves here.
     pub fn unwind(&mut self, place: Place, locals: usize) -> Result<(), CompileError>
-        requires { self.old.code.frame.floor ≤ self.old.code.operands }
+        requires { self.old.code.level.floor ≤ self.old.code.operands }
         ensures written { OnOk result (IsWritten self.old self.new self.old.code.operands) }
         ensures placed { OnOk result (AddsPlaces self.old self.new (here place)) }
     {
         let depth = slot_of(locals)?;
-        self.put(place, Op::UnwindTo(depth))
+        self.put(place, Op::UnwindTo(depth), 0, 0)
     }
 }

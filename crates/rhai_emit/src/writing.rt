@@ -2,8 +2,8 @@
 ghost use Rattle.std.specs.Prelude.{◌≡◌, ◌+◌, ◌-◌, ◌≤◌, IfOk, OnOk, Some, slice_get};
 ghost use Rattle.grain_rules.specs.Flow.{Falls};
 ghost use Rattle.grain_rules.specs.Rows.{flow_of};
-ghost use Rattle.grain_builder.specs.Fitting.{HasEffect, given_by, taken_by};
-ghost use Rattle.grain_builder.specs.Assembler.{spot};
+ghost use Rattle.grain_builder.specs.Fitting.{HasEffect};
+ghost use Rattle.grain_builder.specs.Unfinished.{spot};
 ghost use Rattle.rhai_emit.specs.Loops.{count};
 ghost use Rattle.rhai_emit.specs.Rules.{IsWritten, AddsPlaces};
 ghost use Rattle.rhai_emit.specs.Places.{here};
@@ -18,74 +18,80 @@ use rhai_syntax::Literal;
 const MAX_INDEX: u32 = 65535;
 
 impl Emitter {
-    /// One more operation that falls through, as [`Assembler::put`].
+    /// One more operation that falls through, and takes and gives this many operands.
     ///
     /// # Errors
     /// There are more operands than a chunk can declare, an index is larger than code can have, or the allocator refused.
-    ///
-    /// [`Assembler::put`]: grain_builder::Assembler::put
-    pub fn put(&mut self, place: Place, op: Op) -> Result<(), CompileError>
+    pub fn put(
+        &mut self,
+        place: Place,
+        op: Op,
+        takes: usize,
+        gives: usize,
+    ) -> Result<(), CompileError>
         requires falls { flow_of op ≡ Falls }
-        requires does { HasEffect op self.old.code.operands (taken_by op) (given_by op) }
-        requires room { self.old.code.frame.floor + taken_by op ≤ self.old.code.operands }
-        ensures written { OnOk result (IsWritten self.old self.new (self.old.code.operands - taken_by op + given_by op)) }
+        requires does { HasEffect op self.old.code.operands takes gives }
+        requires room { self.old.code.level.floor + takes ≤ self.old.code.operands }
+        ensures written { OnOk result (IsWritten self.old self.new (self.old.code.operands - takes + gives)) }
         ensures placed { OnOk result (AddsPlaces self.old self.new (here place)) }
     {
         check_indices(place, &op)?;
-        self.code.put(place, op)
+        self.code.put(place, op, takes, gives)
     }
 
-    /// Jumps to a label if the condition on top is that truth value.
+    /// Jumps to a label where the condition on top is that truth value.
     pub fn jump_where(&mut self, place: Place, is_so: bool, target: u32) -> Result<(), CompileError>
-        requires room { self.old.code.frame.floor + 1 ≤ self.old.code.operands }
+        requires room { self.old.code.level.floor + 1 ≤ self.old.code.operands }
         requires there { slice_get self.old.code.labels target
-            ≡ Some (spot (self.old.code.operands - 1) self.old.code.frame) }
+            ≡ Some (spot (self.old.code.operands - 1) self.old.code.level) }
         ensures written { OnOk result (IsWritten self.old self.new (self.old.code.operands - 1)) }
         ensures placed { OnOk result (AddsPlaces self.old self.new (here place)) }
     {
         if is_so {
-            self.code.branch(place, Op::JumpIfTrue { target }, target)
+            self.code
+                .branch(place, Op::JumpIfTrue { target }, target, 1)
         } else {
-            self.code.branch(place, Op::JumpIfFalse { target }, target)
+            self.code
+                .branch(place, Op::JumpIfFalse { target }, target, 1)
         }
     }
 
-    /// The value that was given last is dropped if it isn't wanted.
+    /// The value that was given last is dropped where it isn't wanted.
     pub fn given(&mut self, place: Place, is_wanted: bool) -> Result<(), CompileError>
-        requires { self.old.code.frame.floor + 1 ≤ self.old.code.operands }
+        requires { self.old.code.level.floor + 1 ≤ self.old.code.operands }
         ensures written { OnOk result (IsWritten self.old self.new (self.old.code.operands - 1 + count is_wanted)) }
         ensures placed { OnOk result (AddsPlaces self.old self.new (here place)) }
     {
         if is_wanted {
             return Ok(());
         }
-        self.put(place, Op::Pop)
+        self.put(place, Op::Pop, 1, 0)
     }
 
-    /// What gives nothing gives unit if a value is wanted.
+    /// What gives nothing gives unit where a value is wanted.
     pub fn nothing(&mut self, place: Place, is_wanted: bool) -> Result<(), CompileError>
-        requires { self.old.code.frame.floor ≤ self.old.code.operands }
+        requires { self.old.code.level.floor ≤ self.old.code.operands }
         ensures written { OnOk result (IsWritten self.old self.new (self.old.code.operands + count is_wanted)) }
         ensures placed { OnOk result (AddsPlaces self.old self.new (here place)) }
     {
         if is_wanted {
-            return self.put(place, Op::Unit);
+            return self.put(place, Op::Unit, 0, 1);
         }
         Ok(())
     }
 
     /// The value of a literal.
     pub fn literal(&mut self, place: Place, literal: Literal) -> Result<(), CompileError>
-        requires { self.old.code.frame.floor ≤ self.old.code.operands }
+        requires { self.old.code.level.floor ≤ self.old.code.operands }
         ensures written { OnOk result (IsWritten self.old self.new (self.old.code.operands + 1)) }
         ensures placed { OnOk result (AddsPlaces self.old self.new (here place)) }
     {
         match literal {
-            Literal::Unit => self.put(place, Op::Unit),
-            Literal::Bool(value) => self.put(place, Op::Bool(value)),
+            Literal::Unit => self.put(place, Op::Unit, 0, 1),
+            Literal::Bool(value) => self.put(place, Op::Bool(value), 0, 1),
             literal => {
                 let constant = self.pools.constant(literal)?;
-                self.put(place, Op::Const(constant))
+                self.put(place, Op::Const(constant), 0, 1)
             }
         }
     }
@@ -97,7 +103,7 @@ impl Emitter {
         operator: Operator,
         argc: u8,
     ) -> Result<(), CompileError>
-        requires { self.old.code.frame.floor + argc ≤ self.old.code.operands }
+        requires { self.old.code.level.floor + argc ≤ self.old.code.operands }
         ensures written { OnOk result (IsWritten self.old self.new (self.old.code.operands - argc + 1)) }
         ensures placed { OnOk result (AddsPlaces self.old self.new (here place)) }
     {
@@ -109,12 +115,12 @@ impl Emitter {
             op: Some(token),
             capture_parent_scope: false,
         };
-        self.put(place, call)
+        self.put(place, call, usize::from(argc), 1)
     }
 
     /// Calls a function by its name.
     pub fn call(&mut self, place: Place, name: u32, argc: u8) -> Result<(), CompileError>
-        requires { self.old.code.frame.floor + argc ≤ self.old.code.operands }
+        requires { self.old.code.level.floor + argc ≤ self.old.code.operands }
         ensures written { OnOk result (IsWritten self.old self.new (self.old.code.operands - argc + 1)) }
         ensures placed { OnOk result (AddsPlaces self.old self.new (here place)) }
     {
@@ -124,7 +130,7 @@ impl Emitter {
             op: None,
             capture_parent_scope: false,
         };
-        self.put(place, call)
+        self.put(place, call, usize::from(argc), 1)
     }
 }
 
@@ -178,7 +184,7 @@ pub fn len_of(place: Place, count: usize) -> Result<u16, CompileError>
     }
 }
 
-/// This many operands, and a value if one is wanted.
+/// This many operands, and a value where one is wanted.
 pub fn height_with(height: usize, is_wanted: bool) -> usize
     requires { height ≤ 65535 }
     ensures { result ≡ height + count is_wanted }

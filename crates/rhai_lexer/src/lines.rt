@@ -19,7 +19,7 @@ impl Lines {
     pub fn new(alloc: Global, source: &str) -> Result<Lines, AllocError>
         ensures { IfOk result (λ lines. AreLengths source.now lines.lengths.items) }
     {
-        // Read for the prover alone: no count passes the length of the text.
+        // No count passes the length of the text.
         let _most = source.len();
         let mut lengths = Vec::new(alloc);
         let mut columns: usize = 0;

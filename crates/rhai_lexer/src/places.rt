@@ -10,7 +10,7 @@ impl Place {
     pub fn is_in(self, source: &str) -> bool
         ensures { IsTrue result ↔ LiesIn source.now self }
     {
-        // Read for the prover alone: no count passes the length of the text.
+        // No count passes the length of the text.
         let _most = source.len();
         let mut lines: usize = 0;
         let mut columns: usize = 0;

@@ -1,7 +1,7 @@
 use Rattle.std.proofs.Common.{map, refl, subst, sym}
 use Rattle.std.proofs.lemmas.List.{get_or-map}
 use Rattle.std.proofs.lemmas.List.Elements.{AllWithin-more}
-use Rattle.grain_code.specs.Cuts.{span_of}
+use Rattle.grain.specs.Build.{span_of}
 use Rattle.grain_rules.specs.ByIndex.{IsCut}
 use Rattle.grain.proofs.builder.check_cuts.Goals as goal
 

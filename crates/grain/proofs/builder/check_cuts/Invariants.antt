@@ -1,6 +1,6 @@
 use Rattle.std.specs.Prelude.{map}
 use Rattle.std.specs.List.{AllWithin}
-use Rattle.grain_code.specs.Cuts.{span_of}
+use Rattle.grain.specs.Build.{span_of}
 use Rattle.grain_rules.specs.ByIndex.{IsCut}
 use Rattle.grain.proofs.builder.check_cuts.Given as goal
 

@@ -6,11 +6,10 @@ use Rattle.std.proofs.lemmas.Result.{err_from_is_err_and}
 use Rattle.grain_pools.specs.Dispatch.{AreWithin, IsFirstPast, arms}
 use Rattle.grain_bytecode.specs.declared.assemble_error.AssembleError.{AssembleError}
 use Rattle.grain_pools.specs.declared.switch.Switch.{Switch}
-use Rattle.grain.specs.Build.{BuildFlaw, draft, of_assemble}
-use Rattle.grain_code.specs.Cuts.{span_of}
+use Rattle.grain.specs.Build.{BuildFlaw, draft, of_assemble, span_of}
 use Rattle.grain_rules.specs.ByIndex.{IsCut}
 use Rattle.grain.specs.declared.builder.BuildError.TheVariants as errors
-use Rattle.grain_code.specs.declared.cut.Cut.{Cut}
+use Rattle.grain.specs.declared.builder.Cut.{Cut}
 use Rattle.grain.proofs.AssembledParts.{lead_within, none_past, others_lie}
 use Rattle.grain_rules.proofs.Offsets.{offset_count}
 use Rattle.grain.proofs.builder.lay_cuts.Goals as goal

@@ -3,7 +3,7 @@ use Rattle.std.proofs.lemmas.Simd.{map-map}
 use Rattle.std.proofs.lemmas.Iterator.{YieldsList-from_slice, YieldsList-from_zip}
 use Rattle.std.proofs.lemmas.Iterator.Adapters.{YieldsList-from_vec}
 use Rattle.std.proofs.lemmas.Iterator.Consumers.{YieldsList-end, YieldsList-turn}
-use Rattle.grain_code.specs.Cuts.{span_of}
+use Rattle.grain.specs.Build.{span_of}
 use Rattle.grain_rules.specs.ByIndex.{span_moved}
 use Rattle.grain.proofs.AssembledParts.{cut_there, cuts_listed, heads_listed}
 use Rattle.grain.proofs.builder.place_functions.Goals as goal

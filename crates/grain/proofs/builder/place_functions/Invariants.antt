@@ -1,6 +1,5 @@
 use Rattle.std.specs.Prelude.{◌≡◌, map, slice_index}
-use Rattle.grain.specs.Build.{head_of}
-use Rattle.grain_code.specs.Cuts.{span_of}
+use Rattle.grain.specs.Build.{head_of, span_of}
 use Rattle.grain_rules.specs.ByIndex.{span_moved}
 use Rattle.grain.proofs.builder.place_functions.Given as goal
 

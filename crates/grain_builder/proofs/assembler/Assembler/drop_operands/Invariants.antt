@@ -1,5 +1,5 @@
 use Rattle.std.proofs.Common.{◌-◌}
-use Rattle.grain_builder.specs.Assembler.{AddsPlace, LeavesOperands}
+use Rattle.grain_builder.specs.Unfinished.{AddsPlace, LeavesOperands}
 use Rattle.grain_builder.proofs.assembler.Assembler.drop_operands.Given as goal
 
 abbrev pub invariant-operands : goal.invariant-operands

@@ -1,6 +1,5 @@
 use Rattle.std.proofs.Common.{◌≡◌, ◌≤◌, ℕ, List, length, map, sym, subst, ap, ◌∙◌}
 use Rattle.std.proofs.lemmas.List.{length-map}
-use Rattle.grain_code.specs.Cuts.{span_of}
 use Rattle.grain_code.specs.declared.op.Op.{Op}
 use Rattle.grain_rules.specs.ByIndex.{IsCut, LeadWithin, code_by_index}
 use Rattle.std.specs.List.{All}
@@ -13,7 +12,7 @@ use Rattle.rhai_lexer.specs.declared.error.Place.{Place}
 use Rattle.grain_builder.specs.declared.assembler.TableTargets.{TableTargets}
 use Rattle.grain_builder.specs.Resolved.{resolved_op, resolved_tables}
 use Rattle.grain_builder.specs.Sound.{Workings}
-use Rattle.grain_builder.specs.Assembler.{Assembler}
+use Rattle.grain_builder.specs.Unfinished.{Unfinished}
 use Rattle.grain_builder.proofs.Typings.{are_cuts, lead_within, typed}
 use Rattle.grain_builder.proofs.assembler.Assembler.finish.Goals as goal
 use Rattle.grain_builder.proofs.assembler.Assembler.finish.Goals.{After-drop-self-inside-5}
@@ -22,7 +21,7 @@ abbrev k : After-drop-self-inside-5 → Workings
 k c = workings_of c.self.inside
 
 closed : (c : After-drop-self-inside-5) → (k c).pending ≡ 0
-closed c = subst (λ (w : Assembler). w.pending ≡ 0) (sym c.self.view_is) c.requires.closed
+closed c = subst (λ (w : Unfinished). w.pending ≡ 0) (sym c.self.view_is) c.requires.closed
 
 targets : (c : After-drop-self-inside-5) → c.in_ok-targets.targets.items ≡ (k c).places
 targets c = c.in_ok-targets.ensures ∙ ap (λ (ls : List Label). map label_place ls) c.deref.ensures.value
@@ -42,7 +41,7 @@ returns-clause-complete c = record {
       subst (λ (xs : List Op). HasTyping (code_by_index s xs leads) cut cut.max_stack) (sym (listed c))
       (typed (k c) c.self.invariant (closed c) s leads chains allowed (subst (LeadAmong leads) (tables c) among) cut (c.self.invariant.cuts j cut e).0);
   cuts = subst (λ (n : ℕ). All (IsCut n) (k c).cuts) (sym (many c)) (are_cuts (k c) c.self.invariant (closed c));
-  some = subst (λ (n : ℕ). 1 ≤ n) (length-map c.self.inside.cuts.items span_of) (c.self.invariant.ended (subst (λ (w : Assembler). 1 ≤ w.frame.home) (sym c.self.view_is) c.requires.ended));
+  some = c.self.invariant.ended (subst (λ (w : Unfinished). 1 ≤ w.level.home) (sym c.self.view_is) c.requires.ended);
   leads =
       subst (λ (n : ℕ). LeadWithin n (map targets_of c.in_ok-tables.tables.items)) (sym (many c))
       (subst (LeadWithin (length (k c).ops)) (sym (tables c)) (lead_within (k c) c.self.invariant (closed c)));

@@ -1,6 +1,6 @@
 use Rattle.std.proofs.Common.{◌≡◌, [], ◌∷◌, ◌++◌, map, Some, length, rules, refl, ap, subst, ◌∙◌}
 use Rattle.grain_builder.specs.Assembled.{workings_of, spot_at}
-use Rattle.grain_builder.specs.Assembler.{StaysIn, Assembler}
+use Rattle.grain_builder.specs.Unfinished.{StaysIn, Unfinished}
 use Rattle.grain_builder.specs.declared.assembler.Label.{Label}
 use Rattle.grain_builder.proofs.LabelLists.{outer_of, pushed, pushed_here, pushed_keeps}
 use Rattle.grain_builder.proofs.assembler.Assembler.label_in.Goals as goal
@@ -24,16 +24,16 @@ returns-clause-outer c =
     let is : c.in-Ok.label ≡ length c.self.inside.labels.items = search rules in
     rw c.in_ok-push.ensures.items
     (pushed_here outer_of c.self.inside.labels.items _ c.in-Ok.label is
-    ∙ ap (λ (w : Assembler). Some w.pending) c.self.view_is)
+    ∙ ap (λ (w : Unfinished). Some w.pending) c.self.view_is)
 
 pub returns-clause-labels : goal.returns-clause-labels
 returns-clause-labels c =
     rw c.in_ok-push.ensures.items
-    (subst (λ (w : Assembler). StaysIn w.labels (map spot_at (c.self.inside.labels.items ++ new c ∷ []))) c.self.view_is
+    (subst (λ (w : Unfinished). StaysIn w.labels (map spot_at (c.self.inside.labels.items ++ new c ∷ []))) c.self.view_is
     (pushed_keeps spot_at c.self.inside.labels.items (new c)))
 
 pub returns-clause-outers : goal.returns-clause-outers
 returns-clause-outers c =
     rw c.in_ok-push.ensures.items
-    (subst (λ (w : Assembler). StaysIn w.outers (map outer_of (c.self.inside.labels.items ++ new c ∷ []))) c.self.view_is
+    (subst (λ (w : Unfinished). StaysIn w.outers (map outer_of (c.self.inside.labels.items ++ new c ∷ []))) c.self.view_is
     (pushed_keeps outer_of c.self.inside.labels.items (new c)))

@@ -1,13 +1,13 @@
 use Rattle.std.proofs.Common.{sym, subst}
 use Rattle.grain_builder.specs.Assembled.{workings_of}
 use Rattle.grain_builder.specs.Sound.{IsBased, Workings}
-use Rattle.grain_builder.specs.Assembler.{IsSameButFloor, Frame, Assembler}
+use Rattle.grain_builder.specs.Unfinished.{IsSameButFloor, Level, Unfinished}
 use Rattle.grain_builder.proofs.Marks.{other_floor}
 use Rattle.grain_builder.proofs.assembler.Assembler.release.Goals as goal
 
 pub invariant_of-self : goal.invariant_of-self
 invariant_of-self c =
     let k : Workings = workings_of c.self.inside in
-    let same : IsSameButFloor c.args.frame k.frame = subst (λ (w : Assembler). IsSameButFloor c.args.frame w.frame) (sym c.self.view_is) c.requires in
-    let based : IsBased c.args.frame = subst (λ (l : Frame). IsBased l) c.frame.view_is c.frame.invariant in
+    let same : IsSameButFloor c.args.frame k.level = subst (λ (w : Unfinished). IsSameButFloor c.args.frame w.level) (sym c.self.view_is) c.requires in
+    let based : IsBased c.args.frame = subst (λ (l : Level). IsBased l) c.frame.view_is c.frame.invariant in
     other_floor k c.self.invariant c.args.frame same based

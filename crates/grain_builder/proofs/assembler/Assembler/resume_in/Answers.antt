@@ -1,7 +1,7 @@
 use Rattle.std.proofs.Common.{◌≡◌, sym, subst, arith}
 use Rattle.grain_builder.specs.Assembled.{workings_of}
 use Rattle.grain_builder.specs.Sound.{IsBased, Workings}
-use Rattle.grain_builder.specs.Assembler.{Frame, Assembler}
+use Rattle.grain_builder.specs.Unfinished.{Level, Unfinished}
 use Rattle.std.proofs.Common.{false}
 use Rattle.grain_builder.proofs.Marks.{elsewhere}
 use Rattle.grain_builder.proofs.assembler.Assembler.resume_in.Goals as goal
@@ -9,7 +9,7 @@ use Rattle.grain_builder.proofs.assembler.Assembler.resume_in.Goals as goal
 pub invariant_of-self : goal.invariant_of-self
 invariant_of-self c =
     let k : Workings = workings_of c.self.inside in
-    let loose : k.fixed ≡ false = subst (λ (w : Assembler). w.fixed ≡ false) (sym c.self.view_is) c.requires.loose in
-    let home : c.args.frame.home ≡ k.frame.home = subst (λ (w : Assembler). c.args.frame.home ≡ w.frame.home) (sym c.self.view_is) c.requires.home in
-    let based : IsBased c.args.frame = subst (λ (l : Frame). IsBased l) c.frame.view_is c.frame.invariant in
+    let loose : k.fixed ≡ false = subst (λ (w : Unfinished). w.fixed ≡ false) (sym c.self.view_is) c.requires.loose in
+    let home : c.args.frame.home ≡ k.level.home = subst (λ (w : Unfinished). c.args.frame.home ≡ w.level.home) (sym c.self.view_is) c.requires.home in
+    let based : IsBased c.args.frame = subst (λ (l : Level). IsBased l) c.frame.view_is c.frame.invariant in
     elsewhere k c.self.invariant loose c.args.operands c.args.frame home (omega arith) based

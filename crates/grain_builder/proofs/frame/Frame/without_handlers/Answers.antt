@@ -2,9 +2,9 @@ use Rattle.std.proofs.Common.{◌≡◌, ◌-◌, List, drop, length, map, take,
 use Rattle.std.proofs.lemmas.List.{drop-map, length-drop, take_all}
 use Rattle.grain_rules.specs.Counts.{last_base}
 use Rattle.grain_builder.specs.declared.frame.Base.{Base}
-use Rattle.grain_builder.specs.Frames.{frame_base, frame_of}
+use Rattle.grain_builder.specs.Frames.{frame_base, level_of}
 use Rattle.grain_builder.specs.Sound.{IsBased}
-use Rattle.grain_builder.specs.Assembler.{frame_without_handlers}
+use Rattle.grain_builder.specs.Unfinished.{level_without_handlers}
 use Rattle.grain_builder.proofs.Bases.{based_without}
 use Rattle.grain_builder.proofs.frame.Frame.without_handlers.Goals as goal
 use Rattle.grain_builder.proofs.frame.Frame.without_handlers.Goals.{In_ok-bases}
@@ -19,8 +19,8 @@ kept_last : (c : In_ok-bases) → frame_base c.last_of-last.result ≡ last_base
 kept_last c =
     c.last_of-last.ensures ∙ ap (λ (bs : List Base). last_base (map frame_base bs)) (sym c.in_ok-bases.ensures.items) ∙ ap last_base (kept_bases c)
 
-kept_frame : (c : In_ok-bases) → frame_of (record { floor = c.last_of-last.result.operands; least = c.last_of-last.result.iterators; iterators = c.self.inside.iterators; bases = c.in_ok-bases.bases; home = c.self.inside.home }) ≡ frame_without_handlers c.args.count (frame_of c.self.inside)
-kept_frame c = λ i. record {
+kept_level : (c : In_ok-bases) → level_of (record { floor = c.last_of-last.result.operands; least = c.last_of-last.result.iterators; iterators = c.self.inside.iterators; bases = c.in_ok-bases.bases; home = c.self.inside.home }) ≡ level_without_handlers c.args.count (level_of c.self.inside)
+kept_level c = λ i. record {
   floor = (kept_last c i).operands;
   least = (kept_last c i).iterators;
   iterators = c.self.inside.iterators;
@@ -29,7 +29,7 @@ kept_frame c = λ i. record {
 }
 
 pub invariant_of-result : goal.invariant_of-result
-invariant_of-result c = subst IsBased (sym (kept_frame c)) (based_without c.args.count (frame_of c.self.inside) c.self.invariant)
+invariant_of-result c = subst IsBased (sym (kept_level c)) (based_without c.args.count (level_of c.self.inside) c.self.invariant)
 
 pub returns : goal.returns
-returns c = kept_frame c ∙ ap (frame_without_handlers c.args.count) c.self.view_is
+returns c = kept_level c ∙ ap (level_without_handlers c.args.count) c.self.view_is

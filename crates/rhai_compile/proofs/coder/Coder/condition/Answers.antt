@@ -12,6 +12,6 @@ dispatch-requires-clause-arms g c =
     subst (λ (n : ℕ). AreArms c.args.labels.now n c.jump_where.new.self.code) (sym same)
     (arms_after c.args.labels.now c.args.emitter.now.code.operands c.expr.new.emitter.code c.jump_where.new.self.code
     (arms_after c.args.labels.now c.args.emitter.now.code.operands c.label.new.self c.expr.new.emitter.code
-    (arms_after c.args.labels.now c.args.emitter.now.code.operands c.args.emitter.now.code c.label.new.self c.requires.arms made.frame made.labels made.outers)
-    condition.frame condition.labels condition.outers)
-    jumped.frame jumped.labels jumped.outers)
+    (arms_after c.args.labels.now c.args.emitter.now.code.operands c.args.emitter.now.code c.label.new.self c.requires.arms made.level made.labels made.outers)
+    condition.level condition.labels condition.outers)
+    jumped.level jumped.labels jumped.outers)

@@ -4,7 +4,7 @@ use Rattle.rhai_compile.proofs.coder.Coder.do_loop.Goals as goal
 pub returns-clause-written : goal.returns-clause-written
 returns-clause-written g c = record {
   operands = search rules;
-  frame = search rules;
+  level = search rules;
   labels = search rules;
   outers = search rules;
   pending = search rules;

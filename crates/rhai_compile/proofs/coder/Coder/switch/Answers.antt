@@ -14,13 +14,13 @@ loop-index-init g c =
     record {
       pending = waiting;
       operands = refl;
-      frame = refl;
+      level = refl;
       labels = λ i x e. e;
       outers = λ i x e. e;
       around = refl;
       placed = λ test these old. old;
       arms = subst (λ (n : ℕ). AreArms c.in_ok-labels.labels n c.dispatch.new.self.code) (sym same)
-          (arms_after c.in_ok-labels.labels c.expr.new.emitter.code.operands c.arm_labels.new.self.code c.dispatch.new.self.code made.arms w.frame w.labels w.outers);
+          (arms_after c.in_ok-labels.labels c.expr.new.emitter.code.operands c.arm_labels.new.self.code c.dispatch.new.self.code made.arms w.level w.labels w.outers);
     }
 
 pub loop-index-preserved : goal.loop-index-preserved
@@ -30,7 +30,7 @@ loop-index-preserved g c =
     record {
       pending = omega arith;
       operands = e.operands ∙ h.operands;
-      frame = e.frame ∙ h.frame;
+      level = e.level ∙ h.level;
       labels = λ i x k. e.labels i x (h.labels i x k);
       outers = λ i x k. e.outers i x (h.outers i x k);
       around = e.around ∙ h.around;
@@ -38,5 +38,5 @@ loop-index-preserved g c =
           e.placed test (and_both (pass test (arms_places c.args.arms.now)) (pass test (arm_places c.index-arms-index.result)) these (each_pass arm_places test c.args.arms.now c.loop-index.index c.index-arms-index.result (omega arith) c.index-arms-index.is these))
           (h.placed test these old);
       arms = subst (λ (n : ℕ). AreArms c.in_ok-labels.labels n c.arm.new.emitter.code) (sym e.operands)
-          (arms_after c.in_ok-labels.labels c.loop-index.emitter.code.operands c.loop-index.emitter.code c.arm.new.emitter.code h.arms e.frame e.labels e.outers);
+          (arms_after c.in_ok-labels.labels c.loop-index.emitter.code.operands c.loop-index.emitter.code c.arm.new.emitter.code h.arms e.level e.labels e.outers);
     }
