@@ -72,7 +72,7 @@ level_with_handler n l = record l { floor = n; least = l.iterators; bases = reco
 abbrev pub guarded : ℕ → Level → Level
 guarded n l = record l { floor = n }
 
--- a level with these bases, where no more has to stay than what the last handler stands on
+-- a level with these bases, if no more has to stay than what the last handler stands on
 abbrev pub based_on : List Base → Level → Level
 based_on bases l = record l { floor = (last_base bases).operands; least = (last_base bases).iterators; bases = bases }
 

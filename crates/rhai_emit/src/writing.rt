@@ -39,7 +39,7 @@ impl Emitter {
         self.code.put(place, op, takes, gives)
     }
 
-    /// Jumps to a label where the condition on top is that truth value.
+    /// Jumps to a label if the condition on top is that truth value.
     pub fn jump_where(&mut self, place: Place, is_so: bool, target: u32) -> Result<(), CompileError>
         requires room { self.old.code.level.floor + 1 ≤ self.old.code.operands }
         requires there { slice_get self.old.code.labels target
@@ -56,7 +56,7 @@ impl Emitter {
         }
     }
 
-    /// The value that was given last is dropped where it isn't wanted.
+    /// The value that was given last is dropped if it isn't wanted.
     pub fn given(&mut self, place: Place, is_wanted: bool) -> Result<(), CompileError>
         requires { self.old.code.level.floor + 1 ≤ self.old.code.operands }
         ensures written { OnOk result (IsWritten self.old self.new (self.old.code.operands - 1 + count is_wanted)) }
@@ -68,7 +68,7 @@ impl Emitter {
         self.put(place, Op::Pop, 1, 0)
     }
 
-    /// What gives nothing gives unit where a value is wanted.
+    /// What gives nothing gives unit if a value is wanted.
     pub fn nothing(&mut self, place: Place, is_wanted: bool) -> Result<(), CompileError>
         requires { self.old.code.level.floor ≤ self.old.code.operands }
         ensures written { OnOk result (IsWritten self.old self.new (self.old.code.operands + count is_wanted)) }
@@ -184,7 +184,7 @@ pub fn len_of(place: Place, count: usize) -> Result<u16, CompileError>
     }
 }
 
-/// This many operands, and a value where one is wanted.
+/// This many operands, and a value if one is wanted.
 pub fn height_with(height: usize, is_wanted: bool) -> usize
     requires { height ≤ 65535 }
     ensures { result ≡ height + count is_wanted }
