@@ -1,15 +1,11 @@
 //! Runs that pause.
 
-ghost use Rattle.std.specs.Prelude.{IfOk};
-ghost use Rattle.grain_machine.specs.Resting.{IsParked};
-ghost use Rattle.grain_machine.specs.Resuming.{IsAwaiting};
-
 use crate::runs::{
     ADD, ASKING, Fault, INVOKE, Script, Seen, ended, idle_script, told, with_function,
 };
 use crate::samples::{assert_same, made};
 use grain::{Dynamic, Op};
-use grain_machine::{Ending, Parked, Progress, RunLimits, Runnable, Waiting, prepare};
+use grain_machine::{Progress, RunLimits, Runnable, prepare};
 use std::alloc::{AllocError, Global};
 use std::test::Fail;
 
@@ -18,22 +14,6 @@ use std::test::Fail;
 enum Answer {
     Returns(i64),
     Fails,
-}
-
-/// A run after the call for which it waited.
-fn answered(
-    main: &Runnable<'_>,
-    script: &mut Script,
-    run: Waiting<Dynamic, Vec<i64>>,
-    answer: Answer,
-) -> Result<Parked<Dynamic, Vec<i64>>, Ending<Dynamic, Fault>>
-    requires { IsAwaiting main.now.program run }
-    ensures { IfOk result (IsParked main.now.program) }
-{
-    match answer {
-        Answer::Returns(x) => Ok(main.answer(script, run, Dynamic::Int(x))),
-        Answer::Fails => main.fail(script, run, Fault::Wrong),
-    }
 }
 
 /// How a run in slices of this fuel ends, where, and after how many turns.
@@ -58,13 +38,14 @@ fn in_slices(
                 turns: used,
             } => {
                 turns = turns.saturating_add(used);
-                match answered(main, script, waiting, answer) {
-                    Ok(rest) => {
-                        run = rest;
-                        turns = turns.saturating_add(1);
-                    }
-                    Err(ending) => return Ok((told(&ending.outcome), ending.at, turns)),
+                match answer {
+                    Answer::Returns(x) => run = main.answer(script, waiting, Dynamic::Int(x)),
+                    Answer::Fails => match main.fail(script, waiting, Fault::Wrong) {
+                        Ok(rest) => run = rest,
+                        Err(ending) => return Ok((told(&ending.outcome), ending.at, turns)),
+                    },
                 }
+                turns = turns.saturating_add(1);
             }
             Progress::Ended {
                 ending,
