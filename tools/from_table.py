@@ -330,7 +330,7 @@ fn slot(low: u8, high: u8) -> u16
     u16::from_le_bytes([low, high])
 }}
 
-{"".join(decoder_of(count) for count in range(len(DECODERS)))}/// The instruction of a tag and the bytes of its fields, or `None` where they are none.
+{"".join(decoder_of(count) for count in range(len(DECODERS)))}/// The instruction of a tag and the bytes of its fields, or `None` if they are none.
 #[inline(always)]
 pub(crate) fn op_of(tag: u8, fields: &[u8]) -> Option<Op>
     ensures found {{ IfSome result (λ op. Instr (tag ∷ fields.now) op) }}

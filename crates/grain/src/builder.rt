@@ -202,8 +202,8 @@ fn lay_cuts(
     Ok((program, offsets))
 }
 
-/// Assembles a program from operations whose targets are indices, as [`build`] does, and doesn't verify it. The result is also if
-/// each operation begins in the code, and where the last one ends.
+/// Assembles a program from operations whose targets are indices, as [`build`] does, and doesn't verify it. The result also
+/// has the offset at which each operation begins in the code, and the end of the last one.
 ///
 /// # Errors
 /// As [`build`], except `Verify`.

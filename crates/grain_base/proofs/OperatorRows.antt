@@ -43,7 +43,7 @@ is_number (Some number) = nat_lt number 39
 abbrev stands_for_one : OperatorRow → Bool
 stands_for_one row = is_number row.base
 
--- each op-assignment stands for one of them
+-- each op-assignment applies one of them
 all_stand : list_all stands_for_one operators ≡ true
 unfolding operators
 all_stand = refl
@@ -59,12 +59,12 @@ follows row (Some number) = bytes_eq row.text ((row_at number).text ++ codes "="
 abbrev ends_in_equals : OperatorRow → Bool
 ends_in_equals row = follows row row.base
 
--- each op-assignment has the text of that one, and `=` behind it
+-- the text of each op-assignment is the text of its operator, followed by `=`
 all_end : list_all ends_in_equals operators ≡ true
 unfolding operators
 all_end = refl
 
--- the text of an op-assignment by that of the operator that it stands for
+-- the text of an op-assignment by that of the operator that it applies
 pub assigned_text : (number base : ℕ) (r : Option Token) (parts : TokenParts) → parts ≡ inr number → number < 39 → (row_at number).base ≡ Some base → IfSome r (λ token. token_parts token ≡ inr base)
     → IfSome r (λ token. text_of parts ≡ text_of (token_parts token) ++ codes "=")
 assigned_text number base None parts is inside e found = tt

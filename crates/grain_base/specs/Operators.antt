@@ -7,7 +7,7 @@ use Rattle.std.specs.Str.{bytes_eq}
 use Rattle.std.proofs.Common.{inl, inr}
 use Rattle.grain_base.specs.Tokens.{TokenParts}
 
--- an operator's text, and the number of the operator that it stands for if it is an op-assignment
+-- an operator's text, and for an op-assignment the number of the operator that it applies
 pub record OperatorRow : Type 0 where
   pub text : List ℕ
   pub base : Option ℕ
@@ -42,7 +42,7 @@ abbrev pub text_of : TokenParts → List ℕ
 text_of (inl text) = text
 text_of (inr number) = (row_at number).text
 
--- the number of the operator that an op-assignment stands for
+-- the number of the operator that an op-assignment applies
 abbrev pub base_operator_of : TokenParts → Option ℕ
 base_operator_of (inl _) = None
 base_operator_of (inr number) = (row_at number).base
@@ -51,7 +51,7 @@ base_operator_of (inr number) = (row_at number).base
 abbrev pub first_with : List ℕ → Option ℕ
 first_with text = position (λ (row : OperatorRow). bytes_eq row.text text) operators
 
--- the number of the op-assignment that stands for an operator
+-- the number of the op-assignment that applies an operator
 abbrev pub assignment_of : TokenParts → Option ℕ
 assignment_of (inl _) = None
 assignment_of (inr number) = position (λ (row : OperatorRow). option_eq nat_eq row.base (Some number)) operators

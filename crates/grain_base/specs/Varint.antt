@@ -27,11 +27,11 @@ pub record IsShortest (bytes : List ℕ) (n : ℕ) : Type 0 where
   pub spelled : Spells bytes n
   pub least : (other : List ℕ) → Spells other n → length bytes ≤ length other
 
--- new is old with the shortest spelling of the number behind it
+-- new is old followed by the shortest encoding of the number
 abbrev pub AppendsShortest : List ℕ → List ℕ → ℕ → Type 0
 AppendsShortest old new n = (spelling : List ℕ) × (new ≡ old ++ spelling) × IsShortest spelling n
 
--- The number that is spelled for a signed number v: 2v if v is at least 0, else -2v - 1, which for -(m + 1) is 2m + 1.
+-- The number that encodes a signed number v: 2v if v is at least 0, else -2v - 1, which for -(m + 1) is 2m + 1.
 abbrev pub zigzag : ℤ → ℕ
 zigzag (pos m) = 2 * m
 zigzag (negsuc m) = 2 * m + 1

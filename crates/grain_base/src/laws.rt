@@ -30,7 +30,7 @@ pub fn one_shortest_spelling()
         → IsShortest a n → IsShortest b n → a ≡ b }
 {}
 
-/// A signed number v is spelled as 2v if it is at least 0, else as -2v - 1.
+/// A signed number v is encoded as 2v if it is at least 0, else as -2v - 1.
 pub fn signed_numbers_are_folded()
     ensures even { (v : ℤ) → pos 0 ≤ℤ v → pos (zigzag v) ≡ pos 2 *ℤ v }
     ensures odd { (v : ℤ) → v <ℤ pos 0 → pos (zigzag v) ≡ neg_ℤ (pos 2 *ℤ v) -ℤ pos 1 }

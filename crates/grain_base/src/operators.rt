@@ -6,8 +6,8 @@ ghost use Rattle.grain_base.specs.Tokens.{token_parts};
 
 use crate::token::Token;
 
-/// The text of each operator of the language, in the order of their numbers, and of an op-assignment the number of the operator
-/// that it stands for.
+/// The text of each operator of the language, in the order of their numbers, and for an op-assignment the number of the operator
+/// that it applies.
 static OPERATORS: [(&str, Option<u8>); 39] = [
     ("+", None),
     ("+", None),
@@ -73,7 +73,7 @@ fn number_with_text(text: &str) -> Option<usize>
     table().iter().position(|row| row.0 == text)
 }
 
-/// The number of the op-assignment that stands for the operator of a number.
+/// The number of the op-assignment that applies the operator with a number.
 fn number_of_assignment(number: u8) -> Option<usize>
     ensures { result ≡ assignment_of (inr number) }
 {
@@ -111,7 +111,7 @@ impl Token {
         numbered(number_with_text(text))
     }
 
-    /// The operator that an op-assignment stands for, as `+` of `+=`. `None` if it is no op-assignment of the language.
+    /// The operator that an op-assignment applies, as `+` for `+=`. `None` if it is no op-assignment of the language.
     #[must_use]
     pub fn base_operator(&self) -> Option<Token>
         ensures base { option_map token_parts result
@@ -125,7 +125,7 @@ impl Token {
         }
     }
 
-    /// The op-assignment that stands for the operator, as `+=` for `+`, if there is one.
+    /// The op-assignment that applies the operator, as `+=` for `+`, if there is one.
     #[must_use]
     pub fn op_assignment(&self) -> Option<Token>
         ensures { option_map token_parts result

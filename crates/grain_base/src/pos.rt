@@ -151,7 +151,7 @@ pub fn entries(table: &[u8]) -> Entries<'_>
 
 /// Looks up an address: the site of the first entry there.
 ///
-/// `None` if no entry has the address, and where the line of the first that has it is 0. The entries are those that
+/// `None` if no entry has the address, or if the line of the first that has it is 0. The entries are those that
 /// are whole before the first damage, and no more than the count says. An address that is repeated is no damage
 /// here.
 ///

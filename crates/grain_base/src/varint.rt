@@ -1,12 +1,12 @@
-//! Numbers spelled in groups of seven bits (LEB128).
+//! Numbers encoded in groups of seven bits (LEB128).
 //!
 //! A group is a byte: seven bits of the number, the lowest group first, and the bit `0x80`, which says that another
 //! group follows. There are ten groups at most, and a tenth is 0 or 1, so that each number fits 64 bits. A number has
-//! longer spellings too, as `80 00` for 0: they are read, and never written. A signed number v is spelled as 2v, or as
+//! longer encodings too, as `80 00` for 0: they are read, and never written. A signed number v is encoded as 2v, or as
 //! -2v - 1 if it is negative, so that numbers near 0 are short on both sides. docs/FORMAT.md, "Varints", has the
 //! format.
 //!
-//! A cursor is handed from call to call: each call reads from `at` on, and leaves it after the bytes that it read. It
+//! A cursor is passed from call to call: each call reads from `at` on, and leaves it after the bytes that it read. It
 //! takes constant time, since these are ten at most.
 
 ghost use Rattle.std.specs.Prelude.{◌≡◌, ℕ, ℤ, ◌+◌, ◌^◌, ◌<◌, ◌↔◌, length, take, drop, Ok, Err, IfOk, OnOk, OnErr};
@@ -44,9 +44,9 @@ impl std::error::Error for Error {}
 /// The greatest tenth group: after nine of them one of 64 bits is left.
 const TENTH_MAX: u8 = 1;
 
-/// Reads the number that is spelled at the cursor, and moves the cursor past its spelling.
+/// Reads the number encoded at the cursor, and moves the cursor past it.
 ///
-/// If none is spelled there, the cursor moves past ten bytes, or past all that are left if they are fewer.
+/// If none is encoded there, the cursor moves past ten bytes, or past all that are left if they are fewer.
 ///
 /// # Errors
 ///
@@ -55,7 +55,7 @@ const TENTH_MAX: u8 = 1;
 // Read in place: it is called for each number of a table, and a call takes as long as a number of one group.
 #[inline(always)]
 pub fn u64(bytes: &[u8], at: &mut usize) -> Result<u64, Error>
-    // A number is read exactly where one is spelled.
+    // A number is read if and only if one is encoded there.
     ensures found { IfOk result (λ n. NumberStandsAt bytes.now at.old n at.new) }
     ensures spelled { (n end : ℕ) → NumberStandsAt bytes.now at.old n end
         → (result ≡ Ok n) × (at.new ≡ end) }
@@ -99,14 +99,14 @@ fn groups(bytes: &[u8], at: &mut usize) -> Result<u64, Error>
     Ok(value | u64::from(*byte) << 63)
 }
 
-/// Reads the signed number that is spelled at the cursor, as [`u64`] does: 2v encodes v, -2v - 1 a negative v.
+/// Reads the signed number encoded at the cursor, as [`u64`] does: 2v encodes v, -2v - 1 a negative v.
 ///
 /// # Errors
 ///
 /// As [`u64`].
 #[inline]
 pub fn i64(bytes: &[u8], at: &mut usize) -> Result<i64, Error>
-    // Each number that is spelled encodes a signed one.
+    // Each number encodes a signed one.
     ensures found { IfOk result (λ v. NumberStandsAt bytes.now at.old (zigzag v) at.new) }
     ensures spelled { (v : ℤ) (end : ℕ) → NumberStandsAt bytes.now at.old (zigzag v) end
         → (result ≡ Ok v) × (at.new ≡ end) }
@@ -120,14 +120,14 @@ pub fn i64(bytes: &[u8], at: &mut usize) -> Result<i64, Error>
     Ok(if raw & 1 == 0 { half } else { !half })
 }
 
-/// Reads the number that is spelled at the cursor where it fits a `u32`, as [`u64`] does.
+/// Reads the number encoded at the cursor if it fits a `u32`, as [`u64`] does.
 ///
 /// # Errors
 ///
-/// As [`u64`]; also `Overflow` for a number above 4294967295, with the cursor past its spelling.
+/// As [`u64`]; also `Overflow` for a number above 4294967295, with the cursor past it.
 #[inline(always)]
 pub fn u32(bytes: &[u8], at: &mut usize) -> Result<u32, Error>
-    // A number is read exactly where one is spelled that fits. The cursor passes one that doesn't fit too.
+    // A number is read if and only if one that fits is encoded there. The cursor also passes one that doesn't fit.
     ensures found { IfOk result (λ n. NumberStandsAt bytes.now at.old n at.new) }
     ensures spelled { (n end : ℕ) → NumberStandsAt bytes.now at.old n end
         → (at.new ≡ end) × (n < 2 ^ 32 → result ≡ Ok n) }

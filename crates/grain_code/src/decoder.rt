@@ -298,7 +298,7 @@ fn with_six(tag: u8, a: u8, b: u8, c: u8, d: u8, e: u8, f: u8) -> Option<Op>
     }
 }
 
-/// The instruction of a tag and the bytes of its fields, or `None` where they are none.
+/// The instruction of a tag and the bytes of its fields, or `None` if they are none.
 #[inline(always)]
 pub(crate) fn op_of(tag: u8, fields: &[u8]) -> Option<Op>
     ensures found { IfSome result (λ op. Instr (tag ∷ fields.now) op) }

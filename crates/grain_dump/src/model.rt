@@ -44,7 +44,7 @@ pub struct Section {
     pub end: usize,
     /// What it has, in a few words: for a list how many items.
     pub summary: String,
-    /// Its pieces, where these are wanted.
+    /// Its pieces, if they were requested.
     pub pieces: Vec<Piece>,
 }
 

@@ -50,7 +50,7 @@ fn push_pieces(
     Ok(())
 }
 
-/// The sections of the file of a program, and their pieces if these are wanted. It takes memory for a text of each section
+/// The sections of the file of a program, and their pieces if they were requested. It takes memory for a text of each section
 /// and piece.
 ///
 /// # Errors

@@ -14,7 +14,7 @@ use grain_rules::Read;
 /// Whether rows are a stack typing of a chunk within the operands that it declares.
 ///
 /// The rows are those of the addresses that the typing covers, in ascending order, and name lists of `bases`. The answer is yes
-/// exactly where
+/// if and only if
 ///
 /// - the chunk lies in the code and ends at a boundary of instructions;
 /// - each base names a list before it, and each row a list that is there;

@@ -77,7 +77,7 @@ pub enum TypingError {
     SinksBelowHandler {
         /// The row.
         row: usize,
-        /// How many operands stood when it was armed, or where enough are left, how many iterators.
+        /// How many operands there were when it was armed, or if enough are left, how many iterators.
         need: u32,
         /// How many the instruction leaves as they were.
         have: u32,

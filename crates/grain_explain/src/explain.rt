@@ -18,7 +18,7 @@ use std::alloc::Global;
 /// If the chunk isn't refused the rows are a stack typing of it within its declared stack, and exactly what is reached, so
 /// that [`crate::check_typing`] accepts them. Otherwise the refusal names a flaw of the chunk, with a path along edges to a
 /// state that shows it (two for a conflict; to the greatest count if the stack is too deep), and each state of the path has its row.
-/// So a chunk isn't refused here exactly where it passes, but which of its flaws is named is left open, and so are which of
+/// So a chunk isn't refused here if and only if it passes, but which of its flaws is named is left open, and so are which of
 /// several predecessors a row names and which other rows a refused chunk has: the first by which the walk visited the
 /// instruction, and all that it visited.
 ///
@@ -26,7 +26,7 @@ use std::alloc::Global;
 /// number of its instructions that are visited, and with the arms of their switches. Rows share their lists of bases.
 ///
 /// # Errors
-/// `BadCode` exactly where the code isn't such code; `OutOfMemory` if an allocation failed.
+/// `BadCode` if and only if the code isn't such code; `OutOfMemory` if an allocation failed.
 pub fn explain_chunks<P: Read>(
     alloc: Global,
     caps: Caps,

@@ -113,7 +113,7 @@ fn last_reserve(bases: &[LinkedBase], list: u32) -> Reserve
 /// Whether stacks reach up to a base.
 ///
 /// # Errors
-/// The operands that they lack, or where there are enough, the iterators.
+/// The operands that they lack, or if there are enough, the iterators.
 fn check_reserve(base: Reserve, left: Reserve) -> Result<(), Lack>
     ensures ok { OnOk result (ReachesUpTo base left) }
     ensures err { IfErr result (IsReserve base left) }

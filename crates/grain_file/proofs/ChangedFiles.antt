@@ -40,7 +40,7 @@ module _ (bounds : Bounds) (old new : Kept) where
       (both_no_longer (pools_format bounds) rest_format old.1.0 new.1.0 old.1.1 new.1.1 pools rest) in
       record { fits = body.fits; short = let short = body.short in omega arith }
 
--- how a program is spelled for readers with these limits
+-- how a program is encoded for readers with these limits
 abbrev pub spelled_for : Limits → Program → List ℕ
 spelled_for limits p = (file_format (bounds_of limits)).spelling (kept p)
 

@@ -17,7 +17,7 @@ program_head = magic ++ 1 ∷ 0 ∷ []
 abbrev pub sidecar_head : List ℕ
 sidecar_head = magic ++ 1 ∷ 1 ∷ []
 
--- what the first bytes say of the kind
+-- the kind that the first bytes give
 abbrev pub IsOfKind : List ℕ → Option FileKind → Type 0
 IsOfKind bytes None = ¬ BeginsWith magic bytes
 IsOfKind bytes (Some kinds.Program) = BeginsWith program_head bytes

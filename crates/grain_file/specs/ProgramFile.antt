@@ -1,4 +1,4 @@
--- What of a program is kept in a file, and how that is spelled.
+-- What of a program is kept in a file, and how that is encoded.
 use Rattle.std.specs.Prelude.{◌≡◌, ℕ, ◌/◌, ◌%◌, ◌^◌, ◌≤◌, zero, suc, List, length, map, Option, Some, None, Result, refl}
 use Rattle.grain_code.specs.Span.{Span}
 use Rattle.grain.specs.Program.{Program, places_of}

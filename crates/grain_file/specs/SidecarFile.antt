@@ -1,4 +1,4 @@
--- What of a sidecar is kept in a file: all of it. And how that is spelled.
+-- What of a sidecar is kept in a file: all of it. And how that is encoded.
 use Rattle.std.specs.Prelude.{◌≡◌, ℕ, ◌≤◌, List, length}
 use Rattle.grain.specs.declared.sidecar.Sidecar.{Sidecar}
 use Rattle.grain_file.specs.declared.file.Limits.{Limits}

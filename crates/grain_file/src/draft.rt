@@ -1,4 +1,4 @@
-//! Files in the making. The order of all parts of a program's file stands here.
+//! Files in the making. This module alone has the order of the parts of a program's file.
 ghost use Rattle.std.specs.Prelude.{◌≡◌, ◌≤◌, ◌<◌, ◌++◌, ◌^◌, ◌/◌, ◌%◌, [], ℕ, IfSome, None, Option, OnOk, Some, length, map, option_map, slice_get};
 ghost use Rattle.std.specs.List.{concat};
 ghost use Rattle.grain.specs.Program.{listed_positions};
@@ -23,7 +23,7 @@ use grain_format::{
 use grain_pools::{Strings, Switch};
 use std::alloc::{AllocError, Global};
 
-/// A file in the making: its bytes so far, and the marks of its parts. Behind each part it is marked whole.
+/// A file in the making: its bytes so far, and the marks of its parts. All bytes are marked after each part.
 #[derive(Drop)]
 pub(crate) struct Draft<M> {
     pub(crate) bytes: Vec<u8>,
@@ -55,7 +55,7 @@ impl<M: Marks> Draft<M> {
         }
     }
 
-    /// Marks the bytes behind those that are marked as this part.
+    /// Marks the bytes after the last mark as this part.
     fn mark(&mut self, part: Part) -> Result<(), AllocError>
         requires { (from : ℕ) × M.Reach self.old.marks from
             × (from ≤ length self.old.bytes.items) }

@@ -31,7 +31,7 @@ pub(crate) trait Marks: Drop {
         ensures reaches { OnOk result (Reach self.new end) };
 }
 
-/// No marks: the file alone is wanted.
+/// No marks, if only the file is needed.
 #[derive(Clone, Copy)]
 pub(crate) struct Unmarked;
 

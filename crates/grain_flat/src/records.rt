@@ -48,7 +48,7 @@ impl Model for CChunk {
     ghost inverse = { λ s. record { entry = s.entry; end = s.end; max_stack = s.max_stack } };
 }
 
-/// What a constant asks of the host.
+/// The capabilities that a constant requires of the host.
 #[repr(C)]
 #[derive(Clone, Copy)]
 pub struct CConstant {

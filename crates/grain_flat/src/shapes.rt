@@ -21,10 +21,10 @@ pub const PROPERTY: u32 = 1;
 /// A step is a call of a method.
 pub const METHOD: u32 = 2;
 
-/// A chain gives the value that it has come to.
+/// A chain gives the value that it has reached.
 pub const READ: u32 = 0;
 
-/// A chain assigns to what it has come to.
+/// A chain assigns to what it has reached.
 pub const ASSIGN: u32 = 1;
 
 /// A chain assigns through an op-assignment.

@@ -100,7 +100,7 @@ impl FlatFile {
     /// The flat form of a program, which is dropped when that is made. Time and memory are linear in what the program has.
     ///
     /// # Errors
-    /// `TooLong` where a list has more entries than a row can count. `OutOfMemory` if an allocation failed.
+    /// `TooLong` if a list has more entries than a row can count. `OutOfMemory` if an allocation failed.
     pub fn new(alloc: Global, program: Program) -> Result<FlatFile, Unflat>
         ensures { IfOk result (λ file. file ≡ program) }
     {

@@ -34,7 +34,7 @@ fn constant_row(value: &Dynamic) -> CConstant
     }
 }
 
-/// What each constant asks of the host.
+/// The capabilities that each constant requires of the host.
 pub(crate) fn constant_rows(
     alloc: Global,
     constants: &[Dynamic],

@@ -24,7 +24,7 @@ pub struct CFunction {
 pub struct COpAssignment {
     /// The index of the name of its operator, as `+=`.
     pub op_assign_name: u32,
-    /// The index of the name of the operator that it stands for, as `+`.
+    /// The index of the name of the operator that it applies, as `+`.
     pub op_name: u32,
 }
 

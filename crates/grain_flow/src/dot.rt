@@ -83,7 +83,7 @@ fn push_wrong(graph: &Graph, out: &mut String) -> Result<(), AllocError> {
 /// Appends the graph as text for Graphviz. Its nodes are called `n` and their address. It takes time by the length of the text.
 ///
 /// # Errors
-/// [`AllocError`] where memory was refused.
+/// [`AllocError`] if an allocation failed.
 pub fn write_dot(graph: &Graph, out: &mut String) -> Result<(), AllocError> {
     out.push_str("digraph ")?;
     push_quoted(&graph.title, out)?;

@@ -18,7 +18,7 @@ pub fn columns(text: &str) -> usize {
         .fold(0usize, |width, c| width.saturating_add(width_of(c)))
 }
 
-/// The text, cut off with an ellipsis where it takes more columns than these.
+/// The text, cut off with an ellipsis if it takes more columns than these.
 ///
 /// # Errors
 /// [`AllocError`] if memory was refused.

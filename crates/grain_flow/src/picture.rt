@@ -265,7 +265,7 @@ fn push_lines(lines: &[String], x: usize, top: usize, out: &mut String) -> Resul
 /// left, those of handlers dashed and blue, and the path to a flaw is red. It takes time by the square of the jumps.
 ///
 /// # Errors
-/// [`AllocError`] where memory was refused.
+/// [`AllocError`] if an allocation failed.
 pub fn write_svg(alloc: Global, graph: &Graph, out: &mut String) -> Result<(), AllocError> {
     let lanes = Lanes::of(alloc, graph.nodes.len(), &graph.edges)?;
     let at = Columns::of(graph, lanes.count());

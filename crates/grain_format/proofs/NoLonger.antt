@@ -8,7 +8,7 @@ use Rattle.grain_format.specs.declared.error.FieldFault.{FieldFault}
 use Rattle.grain_format.specs.Formats.{Format, both, counted_list, depending, headed, number_below, optional}
 use Rattle.grain_format.specs.Numbers.{groups, number}
 
--- where the one value fits, the other does, and it is spelled by no more bytes
+-- if the one value fits, so does the other, and its encoding has no more bytes
 pub record NoLonger {A : Type 0} (F : Format A) (old new : A) : Type 0 where
   pub fits : F.Fits old → F.Fits new
   pub short : length (F.spelling new) ≤ length (F.spelling old)

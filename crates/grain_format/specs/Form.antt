@@ -1,4 +1,4 @@
--- A value apart from where it is in memory, and how it is spelled in a file.
+-- A value apart from where it is in memory, and how it is encoded in a file.
 use Rattle.std.specs.Prelude.{◌≡◌, ℕ, ℤ, suc, zero, ◌<◌, ◌^◌, Bool, true, false, List, [], ◌∷◌, ◌++◌, length, map, max, Option, Some, None, String, string_bytes, option_map, slice_get, ◌-◌}
 use Rattle.std.proofs.Math.Utf8.{scalar}
 use Rattle.std.specs.declared.alloc.Global.{Global}
@@ -195,7 +195,7 @@ IntegerFits z = zigzag z < 2 ^ 64
 abbrev pub CharacterFits : ℕ → Type 0
 CharacterFits n = IsBelow (2 ^ 32) n × (scalar n ≡ true)
 
--- if a value is spelled, if those in it are
+-- a value has an encoding if those in it have one
 abbrev pub FitsAround : (Form → Type 0) → Form → Type 0
 FitsAround Inner unit = Unit {0}
 FitsAround Inner (boolean b) = Unit {0}

@@ -91,7 +91,7 @@ impl<'a> Cursor<'a> {
     /// Reads a number.
     ///
     /// # Errors
-    /// `Truncated` where the bytes end within it, `TooWide` if it hasn't 64 bits, and `NotShortest` if it has a shorter
+    /// `Truncated` if the bytes end within it, `TooWide` if it hasn't 64 bits, and `NotShortest` if it has a shorter
     /// spelling.
     #[tactic(auto, unfolding(crate::specs::Numbers::number_at))]
     pub fn number(&mut self) -> Result<u64, Stop>

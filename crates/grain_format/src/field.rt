@@ -20,13 +20,13 @@ pub trait FileField: Drop {
 
     ghost view: { Self → View };
 
-    /// How a view is spelled, which are, and what reading gives.
+    /// How a view is encoded, which views have an encoding, and what reading gives.
     ghost format: { Format View };
 
     /// Reads a value at the cursor, and moves the cursor behind it. Time and memory are linear in the bytes that it reads.
     ///
     /// # Errors
-    /// A `FieldFault` where the bytes at the cursor are no spelling of a value. `OutOfMemory` if an allocation failed.
+    /// A `FieldFault` if the bytes at the cursor encode no value. `OutOfMemory` if an allocation failed.
     fn read(cursor: &mut Cursor<'_>) -> Result<Self, Stop>
         ensures { Gives view result cursor.new.left.now (format.reading cursor.old.left.now) };
 

@@ -1,4 +1,4 @@
-//! Signed numbers, as the numbers that stand for them.
+//! Signed numbers, and the numbers that encode them.
 ghost use Rattle.std.specs.Prelude.{◌≡◌, ◌<◌, ◌^◌, ◌++◌, OnOk};
 ghost use Rattle.grain_base.specs.Varint.{zigzag};
 ghost use Rattle.grain_format.specs.FormAt.{integer_at, signed};
@@ -10,7 +10,7 @@ use crate::error::Stop;
 use crate::number::put_number;
 use std::alloc::AllocError;
 
-/// The signed number that a number stands for.
+/// The signed number that a number encodes.
 fn signed(n: u64) -> i64
     ensures { result ≡ signed n }
 {
@@ -18,7 +18,7 @@ fn signed(n: u64) -> i64
     if n % 2 == 0 { half } else { -half - 1 }
 }
 
-/// The number that a signed one is spelled as.
+/// The number that encodes a signed one.
 fn zigzag(z: i64) -> u64
     ensures { result ≡ zigzag z }
 {

@@ -1,4 +1,4 @@
-//! The fields of program files: how each is spelled, read and written.
+//! The fields of program files: how each is encoded, read and written.
 //!
 //! A [`FileField`] is a type with a *format* (docs/FORMAT.md, "Program files"; the folder `specs/`). The format says how values are
 //! spelled, what reading gives and which values are refused. It has the laws that tie these to one another. [`Cursor`] reads the

@@ -130,7 +130,7 @@ fn cases_in_order(
 /// linear in the bytes, with 8 bytes for each case.
 ///
 /// # Errors
-/// `Unkept` where the key of a case isn't its constant. `OutOfMemory` if an allocation failed.
+/// `Unkept` if the key of a case isn't its constant. `OutOfMemory` if an allocation failed.
 pub fn put_switch(
     alloc: Global,
     out: &mut Vec<u8>,

@@ -186,7 +186,7 @@ fn comes_after(entries: &BTreeMap<String, Dynamic>, key: &str) -> bool
 /// Appends a value. Time and memory are linear in the bytes that it appends. The call stack grows with the depth of the value.
 ///
 /// # Errors
-/// `Unkept` where a value of the host is in it. `OutOfMemory` if an allocation failed.
+/// `Unkept` if a value of the host is in it. `OutOfMemory` if an allocation failed.
 #[cycle(put_value)]
 pub fn put_value(out: &mut Vec<u8>, value: &Dynamic) -> Result<(), WriteError>
     ensures spelled { OnOk result (out.new.items ≡ out.old.items ++ spelled (value_form value.now)) }

@@ -12,7 +12,7 @@ use grain_lines::{LineCase, write_accepted};
 use grain_rules::{NoPools, VerifyError};
 use std::alloc::{AllocError, Global};
 
-/// The explanation of the program that a case asks of; none of other cases.
+/// The explanation of the program in a case; none for other cases.
 ///
 /// # Errors
 /// [`AllocError`] if memory was refused.

@@ -53,7 +53,7 @@ impl Failure {
         }
     }
 
-    /// Whether the reader of standard output has left, as `head` does once it has enough: no message is wanted then.
+    /// Whether the reader of standard output has left, as `head` does once it has enough: then there is no message.
     pub fn is_left_alone(&self) -> bool {
         match self {
             Failure::Write(error) => error.kind() == io::ErrorKind::BrokenPipe,

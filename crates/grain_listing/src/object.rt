@@ -404,7 +404,7 @@ fn write_chunks(
 /// Writes what is listed as the members `refusal`, `items` and `chunks` of an object.
 ///
 /// # Errors
-/// [`AllocError`] where memory was refused.
+/// [`AllocError`] if an allocation failed.
 pub fn write_listed(
     alloc: Global,
     naming: Naming<'_>,

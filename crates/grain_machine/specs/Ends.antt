@@ -28,8 +28,8 @@ pub record WantsRoom (code : Code) (address : ℕ) : Type 0 where
   pub stands : Reads code.layout address op
   pub grows : (flow_of op ≡ flows.BeginsIterator) ⊎ ((target : ℕ) × (flow_of op ≡ flows.PushesHandler target))
 
--- An operation may end a frame so in this state: `Return` alone returns, no quiet operation faults, all handlers have caught
--- if a fault finds none, and memory is wanted for iterators and handlers alone.
+-- An operation may end a frame so in this state. Only `Return` returns. No quiet operation faults. If a fault finds no
+-- handler, all handlers have caught. Only iterators and handlers run out of memory.
 abbrev pub MayEnd : {V I F : Type 0} → Code → ValueMachine V I → Outcome V F → Type 0
 MayEnd code m (outcomes.Returned value) = Returns code m value
 MayEnd code m (outcomes.Faulted fault) = Sounds code m.address × (innermost m.handlers ≡ None)
@@ -56,8 +56,8 @@ IsFaultOf frames outcomes.OutOfFuel = ⊥
 IsFaultOf frames outcomes.OutOfMemory = ⊥
 IsFaultOf frames outcomes.Unanswered = ⊥
 
--- A turn may end a run so: `Return` alone returns, if no frame waits; no quiet operation faults, and all handlers of all
--- frames have caught if a fault finds none; and memory is wanted for iterators and handlers alone.
+-- A turn may end a run so. Only `Return` returns, and only if no frame waits. No quiet operation faults. If a fault finds
+-- no handler, all handlers of all frames have caught. Only iterators and handlers run out of memory.
 abbrev pub StackEnds : {V I F : Type 0} → Program → CallStack V I → Outcome V F → Type 0
 StackEnds p s (outcomes.Returned value) = Returns (program_code p) s.top.machine value × (s.callers ≡ [])
 StackEnds p s (outcomes.Faulted fault) = Sounds (program_code p) s.top.machine.address × (catcher (s.top ∷ s.callers) ≡ None)
@@ -84,7 +84,7 @@ pub record IsOutermost {V I : Type 0} (r : Runs) (a : Activation V I) (turns at 
   pub moves : length earlier ≤ turns
   pub here : a.machine.address ≡ at
 
--- A run of the chunk within the limits ends so, and stands at this address of the chunk; each frame is on a kept run of its
+-- A run of the chunk within the limits ends so, at this address of the chunk; each frame is on a kept run of its
 -- own chunk.
 pub record IsEnded {V F : Type 0} (I : Type 0) (r : Runs) (limits : RunLimits) (at : ℕ) (outcome : Outcome V F) : Type 0 where
   pub stack : CallStack V I

@@ -1,4 +1,4 @@
-//! What the machine asks of its host.
+//! What the machine requires of its host.
 ghost use Rattle.std.specs.Prelude.{◌≡◌, IfOk, length};
 ghost use Rattle.std.specs.List.{Contains};
 ghost use Rattle.grain_base.specs.View.{content};
@@ -27,7 +27,7 @@ pub struct Request<'a> {
     pub op: &'a Op,
 }
 
-/// What a host answers if an operation gives a value.
+/// The answer of a host to an operation that gives a value.
 #[derive(Drop)]
 pub enum Reply<V> {
     /// The value.
@@ -89,16 +89,16 @@ pub trait Host {
         requires gives { gives (setting_of request.now.program.now) request.now.op.now ≡ 1 }
         ensures { IfOk result (NamesFunction request.now.program.now) };
 
-    /// Is told that the function at this index is run from here on, which it named last.
+    /// The function at this index begins to run, which the host named last.
     fn entered(&mut self, function: usize) {
         let _ = function;
     }
 
-    /// Is told that the function that was entered last, of those that weren't left, is run no more: it returned, a fault left
-    /// it, or the whole run has ended.
+    /// The function that was entered last, of those that weren't left, no longer runs: it returned, a fault left it, or the
+    /// whole run has ended.
     fn left(&mut self) {}
 
-    /// The fault that it is where the function at this index, which it named last, can't be run.
+    /// The fault if the function at this index, which the host named last, can't be run.
     fn refused(&mut self, function: usize, why: CallError) -> Self::Fault;
 
     /// Does an operation that gives no value. The machine drops what is left of the operands that it takes.

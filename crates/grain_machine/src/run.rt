@@ -43,7 +43,7 @@ pub struct Waiting<V, I> {
     next: usize,
 }
 
-/// What a slice of a run came to.
+/// How a slice of a run ended.
 #[derive(Drop)]
 pub enum Progress<V, I, F> {
     /// The fuel of the slice is used up.
@@ -131,7 +131,7 @@ impl<'a> Runnable<'a> {
         // What is left of the run can be continued.
         ensures resumable { IsResumable self.now.program result }
 
-        // If a run of any chunk has reached these frames, it has now made so many turns more.
+        // If a run of any chunk has reached these frames, it has now made the turns of this slice too.
         ensures goes { (chunk : Span) (turns : ℕ)
             → HasReached self.now.program limits.depth chunk turns (parked_stack run)
             → Progresses self.now.program limits chunk turns result }
@@ -226,7 +226,7 @@ impl<'a> Runnable<'a> {
         }
     }
 
-    /// Ends a parked run of the same program, and returns if its outermost frame was.
+    /// Ends a parked run of the same program, and returns the address of its outermost frame.
     fn stop<H: Host>(&self, host: &mut H, run: Parked<H::Value, H::Iterator>) -> usize
         requires { IsParked self.now.program run }
         ensures { result ≡ (outermost_of (parked_stack run)).machine.address }

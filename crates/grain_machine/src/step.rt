@@ -18,7 +18,7 @@ use grain_code::{Op, Receiver};
 /// How a run ends.
 #[derive(Drop)]
 pub enum Outcome<V, F> {
-    /// It came to `Return`, with this on top of the operand stack.
+    /// It reached `Return`, with this on top of the operand stack.
     Returned(Option<V>),
     /// A fault came, and no handler is armed that hasn't caught.
     Faulted(F),

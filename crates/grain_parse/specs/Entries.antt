@@ -52,7 +52,7 @@ pub record AreSameAssignOps (one other : AssignOp) : Type 0 where
   pub op : token_parts one.op ≡ token_parts other.op
   pub op_name : one.op_name ≡ other.op_name
 
--- the op-assignment is spelled so and stands for the operator, and both have their texts as their names
+-- the op-assignment has this text and applies the operator, and both have their texts as their names
 pub record IsMadeOf (spelling : List ℕ) (names : List (String Global)) (assign_op : AssignOp) : Type 0 where
   pub op_assign : spelling_of assign_op.op_assign ≡ Some spelling
   pub op_assign_name : HasEntryAt (λ name. string_bytes name ≡ spelling) names assign_op.op_assign_name
@@ -70,7 +70,7 @@ abbrev pub ReadsAssignOpIndex : List ℕ → List (String Global) → List Assig
 ReadsAssignOpIndex line names old new index left =
     (ReadsIndex line index left × (new ≡ old)) ⊎ ReadsAssignOp line names old new index left
 
--- The operator of an op-assignment comes and its name, and then the operator that it stands for and the name of that.
+-- The operator of an op-assignment comes and its name, and then the operator that it applies and the name of that.
 pub record ReadsAssignOpEntry (line : List ℕ) (old new : List (String Global)) (entry : AssignOp) (left : List ℕ) : Type 0 where
   pub after_op_assign : List ℕ
   pub op_assign : ReadsOperator line entry.op_assign after_op_assign

@@ -17,7 +17,7 @@ operand_width operands.Slot = 2
 operand_width operands.Count = 1
 operand_width operands.Target = 4
 
--- so many bytes come behind those that were there
+-- this number of bytes was appended
 pub record Appends (count : ℕ) (old new : List ℕ) : Type 0 where
   pub bytes : List ℕ
   pub many : length bytes ≡ count

@@ -148,7 +148,7 @@ impl Head {
 }
 
 impl Draft {
-    /// A program without anything, which declares so many positions at most.
+    /// An empty program, which may declare at most this number of positions.
     pub fn new(alloc: Global, most_positions: u64) -> Draft
         ensures nothing { HasReadNothing result }
         ensures positions { result.head.most_positions ≡ most_positions }

@@ -214,7 +214,7 @@ impl Pools {
         self.token_index(token)
     }
 
-    /// Reads an op-assignment: its index, or its operator, as `+=`, which stands for the plain one under their own names.
+    /// Reads an op-assignment: its index, or its operator, as `+=`, which applies the plain one under their own names.
     pub fn read_assign_op(&mut self, cursor: &mut Cursor<'_>) -> Result<u32, Stop>
         ensures { IfOk result (λ index. ReadsAssignOpIndex cursor.old.left.now self.new.names.items
             self.old.assign_ops.items self.new.assign_ops.items index cursor.new.left.now) }
@@ -255,7 +255,7 @@ impl Pools {
         }))
     }
 
-    /// Reads an entry of the op-assignments: the operator and its name, the operator that it stands for and the name of that.
+    /// Reads an entry of the op-assignments: the operator and its name, the operator that it applies and the name of that.
     pub fn read_assign_op_entry(&mut self, cursor: &mut Cursor<'_>) -> Result<AssignOp, Stop>
         ensures { IfOk result (λ entry. ReadsAssignOpEntry cursor.old.left.now
             self.old.names.items self.new.names.items entry cursor.new.left.now) }

@@ -2,7 +2,7 @@
 
 use grain_base::Token;
 
-/// An op-assignment, as `+=`, with the operator that it stands for where it has no function of its own. Names are
+/// An op-assignment, as `+=`, with the operator that it applies if it has no function of its own. Names are
 /// indices of the name pool.
 #[derive(Debug, PartialEq, Eq, Drop)]
 pub struct AssignOp {
@@ -10,7 +10,7 @@ pub struct AssignOp {
     pub op_assign: Token,
     /// The name of that operator.
     pub op_assign_name: u32,
-    /// The operator that it stands for, as `+`.
+    /// The operator that it applies, as `+`.
     pub op: Token,
     /// The name of that operator.
     pub op_name: u32,

@@ -140,7 +140,7 @@ impl Strings {
     ///
     /// # Errors
     ///
-    /// [`StringsError::TooLong`] where the names have more bytes than a start of 32 bits can count, which is tested
+    /// [`StringsError::TooLong`] if the names have more bytes than a start of 32 bits can count, which is tested
     /// first, and [`StringsError::OutOfMemory`] if an allocation failed.
     pub fn new(alloc: Global, names: &[&str]) -> Result<Strings, StringsError>
         ensures ok { IfOk result (λ s. s ≡ texts names.now) }

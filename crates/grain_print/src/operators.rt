@@ -54,7 +54,7 @@ pub fn write_token(out: &mut String, token: &Token) -> Result<(), AllocError> {
     }
 }
 
-/// Appends an op-assignment: the operator and its name, the operator that it stands for and the name of that.
+/// Appends an op-assignment: the operator and its name, the operator that it applies and the name of that.
 pub fn write_assign_op(out: &mut String, assign_op: &AssignOp) -> Result<(), AllocError> {
     write_token(out, &assign_op.op_assign)?;
     let name = assign_op.op_assign_name;

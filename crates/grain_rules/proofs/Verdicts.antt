@@ -46,7 +46,7 @@ after_chunks i (Err e) before passes typed deepest accepts flaws = record {
   ];
 }
 
--- memory is wanted after these tests alone
+-- only after these tests memory is allocated
 pub memory_before : (i : Input) (e : VerifyError) → Flaw i e → e ≡ OutOfMemory → ReachesChunks i
 memory_before i e flaw m = absurd (memory_no_flaw i e m flaw)
 

@@ -1,4 +1,4 @@
--- What an operation asks of the host.
+-- The capabilities that an operation requires of the host.
 use Rattle.std.specs.Prelude.{ℕ, ◌≡◌, List, [], ◌∷◌, map, Option, Some, None}
 use Rattle.std.specs.Int.RustNames.{bit_or}
 use Rattle.grain_base.specs.CapBits.{missing, THIS, INDEXING, PROPERTY, METHOD, MODULE}

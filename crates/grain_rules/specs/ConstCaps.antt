@@ -1,4 +1,4 @@
--- What a constant asks of the host, or nothing if a value can't be said to be a constant.
+-- The capabilities that a constant requires of the host, or none if the value can't be a constant.
 use Rattle.std.specs.Prelude.{ℕ, List, [], ◌∷◌, map, String, Option, Some, None}
 use Rattle.std.specs.Int.RustNames.{bit_or}
 use Rattle.std.specs.declared.alloc.Global.{Global}

@@ -22,13 +22,13 @@ pub data Mention : Type 0 where
   Entry : (pool : Pool) (index : ℕ) → Mention
   Operand : (operands : ℕ) (place : ℕ) → Mention
 
--- of a chain: how many operands it takes, what it asks of the host, and what it names, in the order in which that is tested
+-- of a chain: how many operands it takes, the capabilities that it requires, and what it names, in the order of the tests
 pub record ChainFacts : Type 0 where
   pub takes : ℕ
   pub asks : ℕ
   pub mentions : List Mention
 
--- How many entries there are, or what is looked at of each: of a name what it asks of the host, of a switch the constant of
+-- How many entries there are, or what is looked at of each: of a name the capabilities that it requires, of a switch the constant of
 -- each case.
 pub record Facts : Type 0 where
   pub consts : ℕ

@@ -1,7 +1,7 @@
 //! The test of code: whether it is whole instructions, each with its indices in bounds.
 //!
 //! It covers all bytes, also those that no run reaches, and comes before the walk: then the walk may read any instruction that it
-//! comes to without a test.
+//! reaches without a test.
 ghost use Rattle.std.specs.Prelude.{◌≡◌, [], ℕ, ◌+◌, ◌<◌, ◌≤◌, ◌/◌, IfErr, IfOk, OnOk, length, take};
 ghost use Rattle.grain_code.specs.InstructionTable.{width_of};
 ghost use Rattle.grain_code.specs.Split.{Split, StandsAt};

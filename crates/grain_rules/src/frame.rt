@@ -1,6 +1,6 @@
 //! How a chunk lies in the code.
 //!
-//! It is tested before a walk begins, since a walk takes each address that it comes to for the start of an instruction.
+//! It is tested before a walk begins, since a walk takes each address that it reaches for the start of an instruction.
 ghost use Rattle.std.specs.Prelude.{◌≡◌, ◌<◌, IfErr, IfOk, OnOk, Some, slice_get};
 ghost use Rattle.grain_code.specs.Split.{Split};
 ghost use Rattle.grain_rules.specs.Accepted.{IsFramed};

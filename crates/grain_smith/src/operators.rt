@@ -14,7 +14,7 @@ fn all_tokens(alloc: Global) -> Result<Vec<Token>, AllocError> {
     Ok(all)
 }
 
-/// Op-assignments, each with the operator that it stands for.
+/// Op-assignments, each with the operator that it applies.
 fn all_assignments(alloc: Global) -> Result<Vec<(Token, Token)>, AllocError> {
     (0..u8::MAX)
         .map_while(|number| Token::of_number(number))

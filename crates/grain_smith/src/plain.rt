@@ -37,7 +37,7 @@ impl Writer {
         }
     }
 
-    /// The operation of a tag with fields at random. Nothing where the tag begins no instruction, one that leads to a target, or
+    /// The operation of a tag with fields at random. Nothing if the tag begins no instruction, one that leads to a target, or
     /// one with an index into an empty pool.
     fn of_tag(&mut self, tag: u8) -> Result<Option<Op>, SmithError> {
         let width = usize::from(tag_row(tag).width);

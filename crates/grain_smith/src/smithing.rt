@@ -13,7 +13,7 @@ use std::alloc::Global;
 /// the options alone decide which program it is. It takes time by the size, and by what one verification takes.
 ///
 /// # Errors
-/// `Refused` where what was written isn't accepted after all, and `OutOfMemory` if an allocation failed.
+/// `Refused` if what was written isn't accepted after all, and `OutOfMemory` if an allocation failed.
 pub fn smith(alloc: Global, seed: u64, options: &SmithOptions) -> Result<Verified, SmithError>
     ensures verified { IfOk result IsVerified }
     ensures declared { IfOk result (λ smithed. declared_by smithed.program ≡ smithed.depths) }

@@ -253,7 +253,7 @@ impl Cursor {
         Ok(text)
     }
 
-    /// The name that is spelled like a text.
+    /// The name that has this text.
     pub(crate) fn name_of_text(&mut self, text: u32) -> Result<u32, CompileError> {
         let name = String::from_str(self.alloc, self.texts.get(text))?;
         self.names.index(name)

@@ -33,7 +33,7 @@ impl Value {
     /// The object map of the values in these places: one to begin with or unit, and above it names and values in turn.
     ///
     /// # Errors
-    /// [`Cause::WrongType`] where it begins with another value or a name is no text, [`Cause::Unsupported`] if there are no
+    /// [`Cause::WrongType`] if it begins with another value or a name is no text, [`Cause::Unsupported`] if there are no
     /// places, or out of memory.
     pub fn map_from(alloc: Global, places: &mut [Value]) -> Result<Value, Cause> {
         let Some((first, rest)) = places.split_first_mut() else {

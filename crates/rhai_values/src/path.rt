@@ -20,7 +20,7 @@ pub enum Key {
 /// last name, it gives unit and changes nothing.
 ///
 /// # Errors
-/// [`Cause::OutOfBounds`] if no item lies at an index, [`Cause::WrongType`] where a key leads into a value that has no such
+/// [`Cause::OutOfBounds`] if no item lies at an index, [`Cause::WrongType`] if a key leads into a value that has no such
 /// parts, or out of memory: then a part on the way may be unit.
 pub fn swapped(value: &mut Value, keys: &[Key], new: Value) -> Result<Value, Cause> {
     let Some((key, rest)) = keys.split_first() else {

@@ -31,7 +31,7 @@ pub const SUBCOMMAND: Subcommand = Subcommand {
     ],
 };
 
-/// The dump of a file, with its items where these are wanted.
+/// The dump of a file, with its items if they were requested.
 fn dump_of(alloc: Global, path: &str, bytes: &[u8], with_items: bool) -> Result<Dump, Failure> {
     if is_sidecar(bytes) {
         let sidecar = sidecar_of(alloc, path, bytes)?;
