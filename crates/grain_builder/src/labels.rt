@@ -87,27 +87,11 @@ impl Assembler {
         Ok(())
     }
 
-    /// After an operation that doesn't fall through the next one finds this many operands.
+    /// After an operation that doesn't fall through, the next one finds this many operands, in a frame of the same chunk.
     ///
     /// # Errors
     /// There are more operands than a chunk can declare.
-    pub fn resume(&mut self, place: Place, operands: usize) -> Result<(), CompileError>
-        requires { self.old.fixed ≡ false }
-        ensures operands { OnOk result (self.new.operands ≡ operands) }
-        ensures rest { OnOk result (self.new ≡ record self.old { operands = operands }) }
-    {
-        if operands > MAX_OPERANDS {
-            return Err(too_many(place));
-        }
-        self.operands = operands;
-        Ok(())
-    }
-
-    /// The same in another frame of the chunk.
-    ///
-    /// # Errors
-    /// There are more operands than a chunk can declare.
-    pub fn resume_in(
+    pub fn resume(
         &mut self,
         place: Place,
         operands: usize,

@@ -231,7 +231,7 @@ impl<F: Fn(&mut Emitter, &Expr, usize, bool) -> Result<(), CompileError>> Coder<
         self.block(emitter, place, body, false)?;
         emitter.code.disarm(place, outer)?;
         emitter.code.jump(place, end, height)?;
-        emitter.code.resume_in(place, height, inner)?;
+        emitter.code.resume(place, height, inner)?;
         emitter.code.bind(target)?;
         let locals = emitter.scope.len();
         emitter.unwind(place, locals)?;

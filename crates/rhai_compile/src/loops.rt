@@ -68,7 +68,7 @@ impl<F: Fn(&mut Emitter, &Expr, usize, bool) -> Result<(), CompileError>> Coder<
         emitter.jump_where(condition.place, false, exit)?;
         self.block(emitter, place, body, false)?;
         emitter.code.jump(place, inner.next, height)?;
-        emitter.code.resume_in(place, height, outer)?;
+        emitter.code.resume(place, height, outer)?;
         emitter.code.bind(exit)?;
         emitter.scope.around = around;
         emitter.nothing(place, is_wanted)?;
@@ -98,7 +98,7 @@ impl<F: Fn(&mut Emitter, &Expr, usize, bool) -> Result<(), CompileError>> Coder<
         emitter.code.jump(place, inner.next, height)?;
         emitter
             .code
-            .resume_in(place, height_with(height, is_wanted), outer)?;
+            .resume(place, height_with(height, is_wanted), outer)?;
         emitter.scope.around = around;
         emitter.code.bind(end)
     }
@@ -169,7 +169,7 @@ impl<F: Fn(&mut Emitter, &Expr, usize, bool) -> Result<(), CompileError>> Coder<
         emitter.next_item(place, exit, (slot, counter))?;
         self.block(emitter, place, body, false)?;
         emitter.code.jump(place, inner.next, height)?;
-        emitter.code.resume_in(place, height, outer)?;
+        emitter.code.resume(place, height, outer)?;
         emitter.code.bind(exit)?;
         emitter.scope.around = around;
         emitter.nothing(place, is_wanted)?;
@@ -195,7 +195,7 @@ impl<F: Fn(&mut Emitter, &Expr, usize, bool) -> Result<(), CompileError>> Coder<
         self.away(emitter, place, form)?;
         emitter
             .code
-            .resume_in(place, height_with(height, is_wanted), outer)
+            .resume(place, height_with(height, is_wanted), outer)
     }
 
     fn away(&self, emitter: &mut Emitter, place: Place, form: &Form) -> Result<(), CompileError>

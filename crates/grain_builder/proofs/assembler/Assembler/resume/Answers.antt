@@ -4,7 +4,7 @@ use Rattle.grain_builder.specs.Sound.{IsBased, Workings}
 use Rattle.grain_builder.specs.Unfinished.{Level, Unfinished}
 use Rattle.std.proofs.Common.{false}
 use Rattle.grain_builder.proofs.Marks.{elsewhere}
-use Rattle.grain_builder.proofs.assembler.Assembler.resume_in.Goals as goal
+use Rattle.grain_builder.proofs.assembler.Assembler.resume.Goals as goal
 
 pub invariant_of-self : goal.invariant_of-self
 invariant_of-self c =
