@@ -1,4 +1,5 @@
 //! Texts that know how many characters they have.
+ghost use Rattle.std.specs.Prelude.{◌≡◌, string_bytes};
 
 use std::alloc::{AllocError, Global};
 
@@ -22,7 +23,9 @@ impl Text {
 
     /// This text. It looks at each character once.
     #[must_use]
-    pub fn of(string: String) -> Text {
+    pub fn of(string: String) -> Text
+        ensures { result.string ≡ string }
+    {
         let count = string.as_str().chars().count();
         Text { string, count }
     }
@@ -30,7 +33,9 @@ impl Text {
     /// The text itself.
     #[inline(always)]
     #[must_use]
-    pub fn as_str(&self) -> &str {
+    pub fn as_str(&self) -> &str
+        ensures { result.now ≡ string_bytes self.now.string }
+    {
         self.string.as_str()
     }
 

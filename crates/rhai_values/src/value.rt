@@ -1,4 +1,5 @@
 //! Values, and what they hold: arrays, object maps and function pointers, which hold values again.
+ghost use Rattle.std.specs.Prelude.{◌≡◌, string_bytes};
 
 use crate::interval::Interval;
 use crate::measure::Measure;
@@ -140,7 +141,9 @@ pub struct List {
 impl List {
     /// These items. It looks at each once.
     #[must_use]
-    pub fn of(items: Vec<Value>) -> List {
+    pub fn of(items: Vec<Value>) -> List
+        ensures { result.items ≡ items }
+    {
         let mut size = 1usize;
         let mut depth = 1usize;
         for item in &items {
@@ -153,7 +156,9 @@ impl List {
 
     /// The items, in order.
     #[must_use]
-    pub fn items(&self) -> &[Value] {
+    pub fn items(&self) -> &[Value]
+        ensures { result.now ≡ self.now.items.items }
+    {
         self.items.as_slice()
     }
 
@@ -290,7 +295,9 @@ impl Object {
 
     /// The values by their names, in ascending order of these.
     #[must_use]
-    pub fn entries(&self) -> &BTreeMap<String, Value> {
+    pub fn entries(&self) -> &BTreeMap<String, Value>
+        ensures { result.now ≡ self.now.entries }
+    {
         &self.entries
     }
 
@@ -395,7 +402,9 @@ pub struct Pointer {
 impl Pointer {
     /// The function of this name, with these arguments bound. It looks at each of them once.
     #[must_use]
-    pub fn new(name: String, bound: Vec<Value>) -> Pointer {
+    pub fn new(name: String, bound: Vec<Value>) -> Pointer
+        ensures { (result.name ≡ name) × (result.bound ≡ bound) }
+    {
         let mut size = name.len().saturating_add(1);
         let mut depth = 0usize;
         for value in &bound {
@@ -413,13 +422,17 @@ impl Pointer {
 
     /// The name of the function.
     #[must_use]
-    pub fn name(&self) -> &str {
+    pub fn name(&self) -> &str
+        ensures { result.now ≡ string_bytes self.now.name }
+    {
         self.name.as_str()
     }
 
     /// The arguments that are bound already, in order.
     #[must_use]
-    pub fn bound(&self) -> &[Value] {
+    pub fn bound(&self) -> &[Value]
+        ensures { result.now ≡ self.now.bound.items }
+    {
         self.bound.as_slice()
     }
 

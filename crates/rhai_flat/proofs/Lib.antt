@@ -1,0 +1,4 @@
+mod Appending
+mod PlacedRows
+mod RowsInside
+mod WrittenInside

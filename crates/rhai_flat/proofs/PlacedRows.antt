@@ -1,0 +1,28 @@
+-- Where the bytes of rows begin, if others come before them.
+use Rattle.std.proofs.Common.{◌≡◌, ℕ, ◌+◌, Bool, true, false, cond, List, [], ◌∷◌, ◌++◌, refl, sym, ap, ◌∙◌, append_assoc, arith}
+use Rattle.std.proofs.lemmas.Bool.{false≢true}
+use Rattle.grain_flat_file.specs.Values.{placed_row, placed_rows, row_bytes}
+use Rattle.grain_flat_file.specs.declared.records.CValue.{CValue}
+use Rattle.rhai_flat.specs.Rows.{bytes_of}
+
+placed_append : (from : ℕ) (a b : List CValue) → placed_rows from (a ++ b) ≡ placed_rows from a ++ placed_rows (from + bytes_of a) b
+placed_append from [] b = ap (λ (n : ℕ). placed_rows n b) (omega arith)
+placed_append from (r ∷ rs) b =
+    let e : from + row_bytes r + bytes_of rs ≡ from + (row_bytes r + bytes_of rs) = omega arith in
+    ap (λ (ys : List CValue). placed_row from r ∷ ys) (placed_append (from + row_bytes r) rs b ∙ ap (λ (n : ℕ). placed_rows (from + row_bytes r) rs ++ placed_rows n b) e)
+
+pub bytes_append : (a b : List CValue) → bytes_of (a ++ b) ≡ bytes_of a + bytes_of b
+bytes_append [] b = omega arith
+bytes_append (r ∷ rs) b = let e = bytes_append rs b in omega arith
+
+pub placed_behind : (rows : List CValue) (from behind : ℕ) (a b : List CValue) → behind ≡ from + bytes_of a → (rows ++ placed_rows from a) ++ placed_rows behind b ≡ rows ++ placed_rows from (a ++ b)
+placed_behind rows from behind a b e =
+    ap (λ (n : ℕ). (rows ++ placed_rows from a) ++ placed_rows n b) e ∙ append_assoc rows (placed_rows from a) (placed_rows (from + bytes_of a) b) ∙ ap (λ (ys : List CValue). rows ++ ys) (sym (placed_append from a b))
+
+pub at_false : {A : Type 0} (b : Bool) (x y : A) → b ≡ false → cond b x y ≡ y
+at_false false x y e = refl
+at_false true x y e = absurd (false≢true (sym e))
+
+pub at_true : {A : Type 0} (b : Bool) (x y : A) → b ≡ true → cond b x y ≡ x
+at_true true x y e = refl
+at_true false x y e = absurd (false≢true e)

@@ -1,0 +1,5 @@
+use Rattle.std.proofs.Common.{◌≡◌, length}
+use Rattle.rhai_flat.proofs.reading.read_limited.Given as goal
+
+abbrev pub invariant-values : goal.invariant-values
+invariant-values l = length l.values.items ≡ l.counter

@@ -1,0 +1,55 @@
+-- A value of a run apart from where it is in memory: as the form that a constant has.
+use Rattle.std.specs.Prelude.{ℕ, Bool, true, false, List, [], map, String, string_bytes}
+use Rattle.std.specs.declared.alloc.Global.{Global}
+use Rattle.grain_format.specs.Form.{Form, unit, boolean, integer, character, text, range, range_inclusive, array, blob, object_map, fn_ptr, host, forms_of, form_entries_of}
+use Rattle.rhai_values.specs.declared.interval.Interval.{Interval}
+use Rattle.rhai_values.specs.declared.value.Value.{Value, fold-Value}
+use Rattle.rhai_values.specs.declared.value.List.{List as ValueList, fold-List}
+use Rattle.rhai_values.specs.declared.value.Object.{Object, fold-Object}
+use Rattle.rhai_values.specs.declared.value.Pointer.{Pointer, fold-Pointer}
+use Rattle.rhai_values.specs.declared.value.Value.TheOpen.{Value-F, List-F, Object-F, Pointer-F}
+
+abbrev pub range_form : Bool → Interval → Form
+range_form false r = range r.from r.to
+range_form true r = range_inclusive r.from r.to
+
+-- a shared variable has no flat form, as a value of the host has none
+abbrev pub form_step : Value-F Form Form Form Form → Form
+form_step Value-F.Unit = unit
+form_step (Value-F.Bool b) = boolean b
+form_step (Value-F.Int z) = integer z
+form_step (Value-F.Char n) = character n
+form_step (Value-F.Text t) = text (string_bytes t.value.string)
+form_step (Value-F.Range r) = range_form r.value.inclusive r.value
+form_step (Value-F.Array l) = l.value
+form_step (Value-F.Blob b) = blob b.value.items
+form_step (Value-F.Map m) = m.value
+form_step (Value-F.Pointer p) = p.value
+form_step (Value-F.Shared i) = host [] i
+
+abbrev pub list_step : List-F Form Form Form Form → Form
+list_step l = array (forms_of l.items.items)
+
+abbrev pub object_step : Object-F Form Form Form Form → Form
+object_step o = object_map (form_entries_of (map (λ e. (string_bytes e.0, e.1)) o.entries.entries))
+
+abbrev pub pointer_step : Pointer-F Form Form Form Form → Form
+pointer_step p = fn_ptr (string_bytes p.name) (forms_of p.bound.items)
+
+abbrev pub flat_form : Value → Form
+flat_form = fold-Value Form Form Form Form form_step list_step object_step pointer_step
+
+abbrev pub list_form : ValueList → Form
+list_form = fold-List Form Form Form Form form_step list_step object_step pointer_step
+
+abbrev pub object_form : Object → Form
+object_form = fold-Object Form Form Form Form form_step list_step object_step pointer_step
+
+abbrev pub pointer_form : Pointer → Form
+pointer_form = fold-Pointer Form Form Form Form form_step list_step object_step pointer_step
+
+abbrev pub flat_forms : List Value → List Form
+flat_forms vs = map flat_form vs
+
+abbrev pub flat_entries : List (String Global × Value) → List (List ℕ × Form)
+flat_entries es = map (λ (e : String Global × Form). (string_bytes e.0, e.1)) (map (λ e. (e.0, flat_form e.1)) es)

@@ -1,0 +1,20 @@
+//! Values of a run in the flat form in which hosts in C and Rust pass and receive them.
+//!
+//! Values go by copy in both directions. [`FlatValues`] is a list of values as rows and the bytes of their texts, and
+//! [`read_values`] gives the values of such rows. The rows are those of the constants of a program file, so a host reads both in
+//! one way. Values have one flat form: rows that differ from what [`FlatValues`] writes are refused. So the bytes of texts are in
+//! the order of their rows and without gaps, fields that a tag doesn't use are 0, and the keys of a map ascend.
+//!
+//! `SHARED`, `HOST` and `OPERATOR` of [`grain_flat_file::tags`] are tags of no value of a run. `HOST` is kept for values of the
+//! host's own, with their kind and number, and 15 for floats.
+#![tactic(auto)]
+
+mod bad_value;
+mod reader;
+mod reading;
+mod writing;
+
+pub use bad_value::BadValue;
+pub use grain_flat_file::CValue;
+pub use reading::{MAX_DEPTH, read_values};
+pub use writing::FlatValues;

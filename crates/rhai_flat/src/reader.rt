@@ -1,0 +1,122 @@
+//! Rows and bytes that weren't read yet.
+ghost use Rattle.std.specs.Prelude.{◌≡◌, ◌+◌, ◌∷◌, ◌++◌, [], IfErr, IfOk, OnOk, length, pos};
+ghost use Rattle.rhai_flat.specs.declared.bad_value.BadValue.{BadValue};
+
+use crate::bad_value::BadValue;
+use grain_flat_file::CValue;
+use grain_flat_file::tags::{INTEGER, TEXT};
+use std::alloc::Global;
+use std::str;
+
+/// What is left of rows and of the bytes of their texts.
+#[derive(Drop)]
+pub(crate) struct Reader<'a> {
+    /// What takes the memory for what is read.
+    pub(crate) alloc: Global,
+    /// The rows that weren't read yet.
+    pub(crate) rows: &'a [CValue],
+    /// The bytes that weren't read yet.
+    pub(crate) texts: &'a [u8],
+    /// How many bytes were read.
+    pub(crate) from: usize,
+}
+
+impl<'a> Reader<'a> {
+    /// Reads a row.
+    pub(crate) fn row(&mut self) -> Result<CValue, BadValue>
+        ensures row { IfOk result (λ row. self.old.rows.now ≡ row ∷ self.new.rows.now) }
+        ensures none { IfErr result (λ e. (e ≡ BadValue.TooFewRows) × (self.old.rows.now ≡ [])) }
+        ensures bytes { (self.new.texts ≡ self.old.texts) × (self.new.from ≡ self.old.from) }
+    {
+        match self.rows.split_first() {
+            Some((row, rest)) => {
+                self.rows = rest;
+                Ok(*row)
+            }
+            None => Err(BadValue::TooFewRows),
+        }
+    }
+
+    /// Reads the bytes of a row.
+    pub(crate) fn bytes(&mut self, row: CValue) -> Result<&'a [u8], BadValue>
+        ensures rows { self.new.rows ≡ self.old.rows }
+        ensures place { IfOk result (λ _. row.number ≡ pos self.old.from) }
+        ensures count { IfOk result (λ read. row.count ≡ length read.now) }
+        ensures bytes { IfOk result (λ read.
+            self.old.texts.now ≡ read.now ++ self.new.texts.now) }
+        ensures from { IfOk result (λ read. self.new.from ≡ self.old.from + length read.now) }
+    {
+        let Ok(from) = i64::try_from(self.from) else {
+            return Err(BadValue::TextPlace);
+        };
+        if row.number != from {
+            return Err(BadValue::TextPlace);
+        }
+        let Some((bytes, rest)) = self.texts.split_at_checked(row.count as usize) else {
+            return Err(BadValue::TextEnd);
+        };
+        self.texts = rest;
+        self.from += bytes.len();
+        Ok(bytes)
+    }
+
+    /// Reads the text of a row.
+    pub(crate) fn text(&mut self, row: CValue) -> Result<&'a str, BadValue>
+        ensures rows { self.new.rows ≡ self.old.rows }
+        ensures place { IfOk result (λ _. row.number ≡ pos self.old.from) }
+        ensures count { IfOk result (λ read. row.count ≡ length read.now) }
+        ensures bytes { IfOk result (λ read.
+            self.old.texts.now ≡ read.now ++ self.new.texts.now) }
+        ensures from { IfOk result (λ read. self.new.from ≡ self.old.from + length read.now) }
+    {
+        let bytes = self.bytes(row)?;
+        match str::from_utf8(bytes) {
+            Ok(text) => Ok(text),
+            Err(_) => Err(BadValue::NotText),
+        }
+    }
+
+    /// Reads a row of a text, and that text.
+    pub(crate) fn name(&mut self) -> Result<&'a str, BadValue> {
+        let row = self.row()?;
+        if row.tag != TEXT {
+            return Err(BadValue::NotName);
+        }
+        self.text(row)
+    }
+
+    /// Reads a row of an integer.
+    pub(crate) fn integer(&mut self) -> Result<i64, BadValue> {
+        let row = self.row()?;
+        if row.tag != INTEGER {
+            return Err(BadValue::NotInteger);
+        }
+        has_fields(row, 0, row.number)?;
+        Ok(row.number)
+    }
+}
+
+/// Whether the fields of a row are these.
+pub(crate) fn has_fields(row: CValue, count: u32, number: i64) -> Result<(), BadValue>
+    ensures { OnOk result ((row.count ≡ count) × (row.number ≡ number)) }
+{
+    if row.count == count && row.number == number {
+        Ok(())
+    } else {
+        Err(BadValue::UnusedField)
+    }
+}
+
+/// The character of a row.
+pub(crate) fn character(row: CValue) -> Result<char, BadValue>
+    ensures { IfOk result (λ c. (row.count ≡ 0) × (row.number ≡ pos c)) }
+{
+    has_fields(row, 0, row.number)?;
+    let Ok(number) = u32::try_from(row.number) else {
+        return Err(BadValue::NotCharacter);
+    };
+    match char::from_u32(number) {
+        Some(character) => Ok(character),
+        None => Err(BadValue::NotCharacter),
+    }
+}

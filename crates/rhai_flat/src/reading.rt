@@ -1,0 +1,205 @@
+//! Rows as values.
+ghost use Rattle.std.specs.Prelude.{◌≡◌, ◌+◌, ◌<◌, IfOk, length};
+ghost use Rattle.rhai_flat.specs.declared.bad_value.BadValue.{BadValue};
+
+use crate::bad_value::BadValue;
+use crate::reader::{Reader, character, has_fields};
+use grain_flat_file::CValue;
+use grain_flat_file::tags::{
+    ARRAY, BLOB, CHARACTER, FALSE, FN_PTR, INTEGER, MAP, RANGE, RANGE_INCLUSIVE, TEXT, TRUE, UNIT,
+};
+use rhai_values::{List, Object, Pointer, SizeLimits, Value};
+use std::alloc::Global;
+use std::cmp::Ordering;
+use std::rc::Rc;
+
+/// The greatest limit on the depth of values that are read. Reading, writing and dropping one recurse as deep.
+pub const MAX_DEPTH: usize = 256;
+
+/// The values of rows, of which there are `count`. `texts` has the bytes of their texts and blobs.
+///
+/// The rows may come from a stranger. It takes time and memory linear in the rows and texts, n log n for a map of n entries.
+///
+/// # Errors
+/// - [`BadValue::DepthLimit`]: the limit on depth is above [`MAX_DEPTH`].
+/// - [`BadValue::TooDeep`], [`BadValue::TooLarge`]: a value isn't within the limits.
+/// - [`BadValue::OutOfMemory`].
+/// - The others: the rows and texts aren't those that [`FlatValues`](crate::FlatValues) has of such values. The first row at
+///   which they aren't decides.
+pub fn read_values(
+    alloc: Global,
+    rows: &[CValue],
+    texts: &[u8],
+    count: usize,
+    limits: SizeLimits,
+) -> Result<Vec<Value>, BadValue>
+    ensures count { IfOk result (λ values. length values.items ≡ count) }
+    ensures depth { MAX_DEPTH < limits.depth → result ≡ Err BadValue.DepthLimit }
+{
+    if limits.depth > MAX_DEPTH {
+        return Err(BadValue::DepthLimit);
+    }
+    let mut reader = Reader {
+        alloc,
+        rows,
+        texts,
+        from: 0,
+    };
+    let values = read_limited(&mut reader, count, limits)?;
+    if !reader.rows.is_empty() {
+        return Err(BadValue::RowsLeft);
+    }
+    if !reader.texts.is_empty() {
+        return Err(BadValue::BytesLeft);
+    }
+    Ok(values)
+}
+
+/// Reads values within the limits.
+fn read_limited(
+    reader: &mut Reader<'_>,
+    count: usize,
+    limits: SizeLimits,
+) -> Result<Vec<Value>, BadValue>
+    ensures { IfOk result (λ values. length values.items ≡ count) }
+{
+    let mut values = Vec::new(reader.alloc);
+    'values: for _ in 0..count {
+        let value = read_value(reader, limits.depth)?;
+        if !limits.allow(value.measure()) {
+            return Err(BadValue::TooLarge);
+        }
+        values.push(value)?;
+    }
+    Ok(values)
+}
+
+/// Reads a value, in which values are nested so deep at most.
+#[cycle(read_value)]
+fn read_value(reader: &mut Reader<'_>, depth: usize) -> Result<Value, BadValue> {
+    let row = reader.row()?;
+    match row.tag {
+        ARRAY => read_array(reader, row, depth),
+        MAP => read_map(reader, row, depth),
+        FN_PTR => read_pointer(reader, row, depth),
+        _ => read_single(reader, row),
+    }
+}
+
+/// Reads what follows the row of a value that holds no others.
+fn read_single(reader: &mut Reader<'_>, row: CValue) -> Result<Value, BadValue> {
+    match row.tag {
+        UNIT => {
+            has_fields(row, 0, 0)?;
+            Ok(Value::Unit)
+        }
+        FALSE => {
+            has_fields(row, 0, 0)?;
+            Ok(Value::Bool(false))
+        }
+        TRUE => {
+            has_fields(row, 0, 0)?;
+            Ok(Value::Bool(true))
+        }
+        INTEGER => {
+            has_fields(row, 0, row.number)?;
+            Ok(Value::Int(row.number))
+        }
+        CHARACTER => Ok(Value::Char(character(row)?)),
+        TEXT => {
+            let text = String::from_str(reader.alloc, reader.text(row)?)?;
+            Ok(Value::text(reader.alloc, text)?)
+        }
+        BLOB => {
+            let bytes = Vec::from_slice(reader.alloc, reader.bytes(row)?)?;
+            Ok(Value::Blob(Rc::new(reader.alloc, bytes)?))
+        }
+        RANGE => read_range(reader, row, false),
+        RANGE_INCLUSIVE => read_range(reader, row, true),
+        tag => Err(BadValue::UnknownTag(tag)),
+    }
+}
+
+/// Reads the bounds of a range.
+fn read_range(reader: &mut Reader<'_>, row: CValue, inclusive: bool) -> Result<Value, BadValue> {
+    has_fields(row, 0, 0)?;
+    let from = reader.integer()?;
+    let to = reader.integer()?;
+    Ok(Value::range(reader.alloc, from, to, inclusive)?)
+}
+
+/// How deep values are nested at most in one in which they are nested so deep.
+fn inner(depth: usize) -> Result<usize, BadValue>
+    ensures { IfOk result (λ less. less + 1 ≡ depth) }
+{
+    match depth.checked_sub(1) {
+        Some(depth) => Ok(depth),
+        None => Err(BadValue::TooDeep),
+    }
+}
+
+/// Reads the items of an array.
+#[cycle(read_value)]
+fn read_array(reader: &mut Reader<'_>, row: CValue, depth: usize) -> Result<Value, BadValue> {
+    has_fields(row, row.count, 0)?;
+    let items = read_all(reader, row.count, inner(depth)?)?;
+    Ok(Value::array(reader.alloc, items)?)
+}
+
+/// Reads the name of a function, and the values that are bound.
+#[cycle(read_value)]
+fn read_pointer(reader: &mut Reader<'_>, row: CValue, depth: usize) -> Result<Value, BadValue> {
+    has_fields(row, row.count, 0)?;
+    let name = String::from_str(reader.alloc, reader.name()?)?;
+    let bound = if row.count == 0 {
+        Vec::new(reader.alloc)
+    } else {
+        read_all(reader, row.count, inner(depth)?)?
+    };
+    Ok(Value::Pointer(Rc::new(reader.alloc, Pointer::new(name, bound))?))
+}
+
+/// Reads so many values.
+#[cycle(read_value)]
+fn read_all(reader: &mut Reader<'_>, count: u32, depth: usize) -> Result<Vec<Value>, BadValue> {
+    let mut values = Vec::new(reader.alloc);
+    'values: for _ in 0..count {
+        let value = read_value(reader, depth)?;
+        values.push(value)?;
+    }
+    Ok(values)
+}
+
+/// Reads the entries of a map.
+#[cycle(read_value)]
+fn read_map(reader: &mut Reader<'_>, row: CValue, depth: usize) -> Result<Value, BadValue> {
+    has_fields(row, row.count, 0)?;
+    let object = read_entries(reader, row.count, inner(depth)?)?;
+    Ok(Value::Map(Rc::new(reader.alloc, object)?))
+}
+
+/// Reads so many entries.
+#[cycle(read_value)]
+fn read_entries(reader: &mut Reader<'_>, count: u32, depth: usize) -> Result<Object, BadValue> {
+    let mut object = Object::new(reader.alloc);
+    'entries: for _ in 0..count {
+        let key = reader.name()?;
+        comes_last(&object, key)?;
+        let value = read_value(reader, depth)?;
+        let key = String::from_str(reader.alloc, key)?;
+        let _ = object.insert(key, value)?;
+    }
+    Ok(object)
+}
+
+/// Whether a key comes behind those of an object map.
+fn comes_last(object: &Object, key: &str) -> Result<(), BadValue> {
+    let Some((last, _)) = object.entries().last_key_value() else {
+        return Ok(());
+    };
+    match last.as_str().cmp(key) {
+        Ordering::Less => Ok(()),
+        Ordering::Equal => Err(BadValue::RepeatedKey),
+        Ordering::Greater => Err(BadValue::KeyOrder),
+    }
+}
