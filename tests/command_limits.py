@@ -33,10 +33,13 @@ def limited(size):
 def check_full(grain):
     """A write that fails leaves the old file, and no other."""
     grain.done("smith", "--seed", "1", "--size", "10", "-o", "kept.grain")
+    grain.done("smith", "--seed", "1", "--size", "8000", "-o", "long.grain")
     old, before = grain.read("kept.grain"), sorted(os.listdir(grain.folder))
-    status, _, errors = grain.run("smith", "--seed", "1", "--size", "8000", "-o", "kept.grain", preexec_fn=lambda: limited(4096))
-    expect(status == 1 and errors.startswith(b"error: kept.grain: "), f"a full disk ends with {status}: {errors!r}")
-    expect(grain.read("kept.grain") == old and sorted(os.listdir(grain.folder)) == before, "a write that fails leaves another file")
+    for words in ("smith --seed 1 --size 8000", "print long.grain", "list --json long.grain", "flow long.grain", "dump -x long.grain"):
+        status, _, errors = grain.run(*words.split(), "-o", "kept.grain", preexec_fn=lambda: limited(4096))
+        expect(status == 1 and errors.startswith(b"error: kept.grain: "), f"a full disk ends `{words}` with {status}: {errors!r}")
+        kept = grain.read("kept.grain") == old and sorted(os.listdir(grain.folder)) == before
+        expect(kept, f"`{words}` leaves another file if a write fails")
 
 
 def check_positions(grain):
@@ -70,12 +73,30 @@ def check_growth(grain):
         expect(grain.done("parse", "-", given=grain.done("print", file)) == grain.read(file), "a long name doesn't come back")
 
 
+def little_memory():
+    resource.setrlimit(resource.RLIMIT_AS, (64 << 20, 64 << 20))
+
+
+def check_memory(grain):
+    """A text that is longer than the memory is written."""
+    values = b", ".join([b'"' + b"n" * 60 + b'"'] * 15)
+    wide = b".constants\n[" + values + b"]\n.code\n" + b"load_const #0\npop\n" * 60_000
+    narrow = b".code\n" + b"unit\npop\n" * 600_000
+    for text, commands in ((wide, (["list", "--json"], ["flow"])), (narrow, (["dump", "-x"], ["dump", "-x", "--json"]))):
+        file = grain.write("memory.grain", grain.done("parse", "-", given=text + b"unit\nreturn\n"))
+        for words in commands:
+            status, _, errors = grain.run(*words, "-o", "memory.out", file, preexec_fn=little_memory)
+            expect((status, errors) == (0, b""), f"{words} needs more memory: {status}, {errors!r}")
+            size = os.path.getsize(grain.folder / "memory.out")
+            expect(size > 64 << 20, f"{words} writes {size} bytes, which is too little for a test")
+
+
 def main():
     if len(sys.argv) != 2:
         sys.exit(__doc__)
     with tempfile.TemporaryDirectory() as folder:
         grain = Program(sys.argv[1], folder)
-        for check in (check_version, check_full, check_positions, check_protected, check_growth):
+        for check in (check_version, check_full, check_positions, check_protected, check_growth, check_memory):
             check(grain)
     print("limits of grain: well")
 

@@ -1,10 +1,10 @@
 //! Outputs. A file is written under another name, and replaces the old one once it is whole: a write that
-//! fails leaves the old file.
+//! fails leaves the old file. Small writes are gathered.
 
 use crate::failure::Failure;
 use std::alloc::{AllocError, Global};
 use std::fs::{File, Metadata, OpenOptions};
-use std::io::{ErrorKind, IsTerminal, Write};
+use std::io::{ErrorKind, IsTerminal, Stdout, Write};
 use std::{fs, io};
 
 /// The path that means standard input or output.
@@ -12,6 +12,9 @@ pub const STANDARD: &str = "-";
 
 /// How many names a new file tries.
 const TRIES: usize = 1000;
+
+/// How many bytes of small writes are gathered at most.
+const MOST_HELD: usize = 8192;
 
 /// A file that is written, and what it replaces.
 #[derive(Drop)]
@@ -27,17 +30,19 @@ struct Replacing {
 #[derive(Drop)]
 enum Target {
     /// To standard output.
-    Standard,
+    Standard(Stdout),
     /// Into what is there: a device, a pipe.
     There(File),
     /// Into a new file.
     New(Replacing),
 }
 
-/// What is written to a file or to standard output.
+/// What is written to a file or to standard output, as a writer. [`end`](Output::end) writes the last bytes.
 #[derive(Drop)]
 pub struct Output {
     target: Target,
+    /// Bytes of small writes that the target doesn't have yet.
+    held: Vec<u8>,
     /// What the file is called in messages.
     path: String,
 }
@@ -148,7 +153,53 @@ fn put(rt: &HostRuntime, new: &Replacing) -> io::Result<()> {
     fs::rename(rt, new.temporary.as_str(), new.place.as_str())
 }
 
+impl Target {
+    /// Writes bytes at once.
+    fn put(&mut self, bytes: &[u8]) -> io::Result<()> {
+        match self {
+            Target::Standard(out) => out.write_all(bytes),
+            Target::There(file) => file.write_all(bytes),
+            Target::New(new) => new.file.write_all(bytes),
+        }
+    }
+
+    /// Flushes what was written.
+    fn flush(&mut self) -> io::Result<()> {
+        match self {
+            Target::Standard(out) => out.flush(),
+            Target::There(file) => file.flush(),
+            Target::New(new) => new.file.flush(),
+        }
+    }
+}
+
+impl Write for Output {
+    fn write(&mut self, bytes: &[u8]) -> io::Result<usize> {
+        if bytes.len() > MOST_HELD.saturating_sub(self.held.len()) {
+            self.pass_on()?;
+        }
+        if bytes.len() > MOST_HELD {
+            self.target.put(bytes)?;
+        } else {
+            self.held.extend_from_slice(bytes)?;
+        }
+        Ok(bytes.len())
+    }
+
+    fn flush(&mut self) -> io::Result<()> {
+        self.pass_on()?;
+        self.target.flush()
+    }
+}
+
 impl Output {
+    /// Writes the bytes that are held.
+    fn pass_on(&mut self) -> io::Result<()> {
+        self.target.put(&self.held)?;
+        self.held.clear();
+        Ok(())
+    }
+
     /// What is written to a file, or to standard output if none is given.
     ///
     /// # Errors
@@ -157,13 +208,15 @@ impl Output {
         let alloc = rt.alloc();
         let Some(path) = path.filter(|path| *path != STANDARD) else {
             return Ok(Output {
-                target: Target::Standard,
+                target: Target::Standard(rt.stdout()),
+                held: Vec::new(alloc),
                 path: String::new(alloc),
             });
         };
         match target_of(rt, path) {
             Ok(target) => Ok(Output {
                 target,
+                held: Vec::new(alloc),
                 path: String::from_str(alloc, path)?,
             }),
             Err(error) => Err(Failure::of(alloc, path, error)),
@@ -181,28 +234,40 @@ impl Output {
         Output::open(rt, path)
     }
 
-    /// Writes more bytes.
-    ///
-    /// # Errors
-    /// They can't be written.
-    pub fn write(&mut self, rt: &HostRuntime, bytes: &[u8]) -> Result<(), Failure> {
-        let written = match &mut self.target {
-            Target::Standard => return write_standard(rt, bytes),
-            Target::There(file) => file.write_all(bytes),
-            Target::New(new) => new.file.write_all(bytes),
-        };
-        match written {
-            Ok(()) => Ok(()),
-            Err(error) => Err(Failure::of(rt.alloc(), self.path.as_str(), error)),
+    /// The failure of an error of this output.
+    pub fn failure(&self, alloc: Global, error: io::Error) -> Failure {
+        match (&self.target, error.kind()) {
+            (_, ErrorKind::OutOfMemory) => Failure::OutOfMemory,
+            (Target::Standard(_), _) => Failure::Output(error),
+            (Target::There(_) | Target::New(_), _) => Failure::of(alloc, &self.path, error),
         }
     }
 
-    /// Ends the output. If everything was written, a new file replaces the old one. Otherwise it is removed.
+    /// What was done, and whether the last bytes could be written.
+    fn flushed(&mut self, alloc: Global, done: io::Result<()>) -> Result<(), Failure> {
+        let done = match done {
+            Ok(()) => self.flush(),
+            Err(error) => Err(error),
+        };
+        match done {
+            Ok(()) => Ok(()),
+            Err(error) => Err(self.failure(alloc, error)),
+        }
+    }
+
+    /// Ends the output, to which something was written. If everything was, a new file replaces the old one. Otherwise it is removed.
     ///
     /// # Errors
     /// That of what was done, or the file can't be written.
-    pub fn end(self, rt: &HostRuntime, done: Result<(), Failure>) -> Result<(), Failure> {
-        let Output { target, path } = self;
+    pub fn end(self, rt: &HostRuntime, done: io::Result<()>) -> Result<(), Failure> {
+        let mut output = self;
+        let done = output.flushed(rt.alloc(), done);
+        output.close(rt, done)
+    }
+
+    /// Puts the new file in the place of the old one, if everything was written. Otherwise it is removed.
+    fn close(self, rt: &HostRuntime, done: Result<(), Failure>) -> Result<(), Failure> {
+        let Output { target, path, .. } = self;
         let Target::New(new) = target else {
             return done;
         };
@@ -222,7 +287,7 @@ impl Output {
 /// Writes a whole output.
 fn write_whole(rt: &HostRuntime, output: Output, bytes: &[u8]) -> Result<(), Failure> {
     let mut output = output;
-    let done = output.write(rt, bytes);
+    let done = output.write_all(bytes);
     output.end(rt, done)
 }
 
@@ -245,12 +310,16 @@ pub fn write_both(
     let mut one = Output::open_binary(rt, Some(path))?;
     let mut other = match Output::open_binary(rt, other_path) {
         Ok(other) => other,
-        Err(failure) => return one.end(rt, Err(failure)),
+        Err(failure) => return one.close(rt, Err(failure)),
     };
-    let done = match one.write(rt, bytes) {
-        Ok(()) => other.write(rt, other_bytes),
+    let written = one.write_all(bytes);
+    let done = match one.flushed(rt.alloc(), written) {
+        Ok(()) => {
+            let written = other.write_all(other_bytes);
+            other.flushed(rt.alloc(), written)
+        }
         Err(failure) => Err(failure),
     };
-    let done = one.end(rt, done);
-    other.end(rt, done)
+    let done = one.close(rt, done);
+    other.close(rt, done)
 }

@@ -2,7 +2,10 @@
 
 use crate::edges::{Edge, EdgeKind};
 use crate::graph::{Graph, Node, Standing};
+use grain_code::Op;
 use std::alloc::{AllocError, Global};
+use std::io;
+use std::io::Write;
 
 /// Appends text in quotes, in which a quote and a backslash are escaped.
 fn push_quoted(piece: &str, out: &mut String) -> Result<(), AllocError> {
@@ -63,28 +66,44 @@ fn edge_style(edge: &Edge) -> &'static str {
     }
 }
 
-/// Appends an edge.
-fn push_edge(nodes: &[Node], edge: &Edge, out: &mut String) -> Result<(), AllocError> {
-    let (Some(from), Some(to)) = (nodes.get(edge.from), nodes.get(edge.to)) else {
+/// Writes a node.
+fn write_node<W: Write>(
+    alloc: Global,
+    graph: &Graph<'_>,
+    item: &(usize, Op),
+    out: &mut W,
+) -> io::Result<()> {
+    let node = graph.node(alloc, item)?;
+    let mut text = String::new(alloc);
+    push_node(&node, &mut text)?;
+    out.write_all(text.as_bytes())
+}
+
+/// Writes an edge.
+fn write_edge<W: Write>(
+    alloc: Global,
+    graph: &Graph<'_>,
+    edge: &Edge,
+    out: &mut W,
+) -> io::Result<()> {
+    let (Some(start), Some(end)) = (graph.address(edge.from), graph.address(edge.to)) else {
         return Ok(());
     };
-    let (start, end, style) = (from.at, to.at, edge_style(edge));
-    write!(out, "  n{start} -> n{end}{style};\n")
+    let style = edge_style(edge);
+    let text = format!(in alloc; "  n{start} -> n{end}{style};\n")?;
+    out.write_all(text.as_bytes())
 }
 
 /// Appends what is wrong with the code, as what stands below the picture.
-fn push_wrong(graph: &Graph, out: &mut String) -> Result<(), AllocError> {
+fn push_wrong(graph: &Graph<'_>, out: &mut String) -> Result<(), AllocError> {
     let wrong = &graph.wrong;
     let rule = graph.rule;
     let said = format!(in *out.allocator(); "{wrong} The rule: {rule}")?;
     push_quoted(&said, out)
 }
 
-/// Appends the graph as text for Graphviz. Its nodes are called `n` and their address. It takes time by the length of the text.
-///
-/// # Errors
-/// [`AllocError`] if an allocation failed.
-pub fn write_dot(graph: &Graph, out: &mut String) -> Result<(), AllocError> {
+/// Appends what comes before the nodes.
+fn push_front(graph: &Graph<'_>, out: &mut String) -> Result<(), AllocError> {
     out.push_str("digraph ")?;
     push_quoted(&graph.title, out)?;
     out.push_str(" {\n  node [shape=box, fontname=monospace];\n")?;
@@ -93,11 +112,28 @@ pub fn write_dot(graph: &Graph, out: &mut String) -> Result<(), AllocError> {
         push_wrong(graph, out)?;
         out.push_str(";\n")?;
     }
-    for node in &graph.nodes {
-        push_node(node, out)?;
+    Ok(())
+}
+
+/// Writes what comes before the nodes.
+fn write_front<W: Write>(alloc: Global, graph: &Graph<'_>, out: &mut W) -> io::Result<()> {
+    let mut text = String::new(alloc);
+    push_front(graph, &mut text)?;
+    out.write_all(text.as_bytes())
+}
+
+/// Writes the graph as text for Graphviz. Its nodes are called `n` and their address. It takes time by the length of the text, and memory
+/// for the text of one node.
+///
+/// # Errors
+/// The output can't be written, or memory was refused.
+pub fn write_dot<W: Write>(alloc: Global, graph: &Graph<'_>, out: &mut W) -> io::Result<()> {
+    write_front(alloc, graph, out)?;
+    for item in graph.items {
+        write_node(alloc, graph, item, out)?;
     }
     for edge in &graph.edges {
-        push_edge(&graph.nodes, edge, out)?;
+        write_edge(alloc, graph, edge, out)?;
     }
-    out.push_str("}\n")
+    out.write_all(b"}\n".as_slice())
 }

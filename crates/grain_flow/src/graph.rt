@@ -46,18 +46,21 @@ pub struct Node {
     pub bases: String,
 }
 
-/// The graph of an explained chunk.
+/// The graph of an explained chunk. Its nodes are made when they are needed.
 #[derive(Drop)]
-pub struct Graph {
+pub struct Graph<'a> {
+    naming: Naming<'a>,
+    handlers: Handlers<'a>,
+    chunk: &'a ExplainedChunk,
+    /// The instructions with their addresses, in order. Each is a node.
+    pub items: &'a [(usize, Op)],
     /// What the chunk is called, where it is, and whether it passes.
     pub title: String,
     /// What is wrong, in a sentence; empty if the chunk passes.
     pub wrong: String,
     /// The rule that it breaks, in a sentence; likewise.
     pub rule: &'static str,
-    /// The instructions, in the order of their addresses.
-    pub nodes: Vec<Node>,
-    /// The edges between them, by where they begin.
+    /// The edges between the instructions, by where they begin.
     pub edges: Vec<Edge>,
 }
 
@@ -241,40 +244,52 @@ fn broken_rule(refusal: &Option<Refusal>) -> &'static str {
     }
 }
 
-impl Graph {
+impl<'a> Graph<'a> {
     /// The graph of the explained chunk at a place of a program, whose listing this is; none if no chunk is explained there. It takes
-    /// time by the length of the chunk's text and of the paths to its flaw.
+    /// time by the length of the chunk and of the paths to its flaw, and memory for its edges.
     ///
     /// # Errors
     /// [`AllocError`] if memory was refused.
     pub fn of(
         alloc: Global,
-        program: &Program,
-        listing: &ProgramListing,
+        program: &'a Program,
+        listing: &'a ProgramListing,
         place: usize,
-    ) -> Result<Option<Graph>, AllocError> {
+    ) -> Result<Option<Graph<'a>>, AllocError> {
         let Some(chunk) = listing.chunks.get(place) else {
             return Ok(None);
         };
         let Some(explained) = listing.explained.chunks.get(place) else {
             return Ok(None);
         };
-        let naming = Naming::Program(program);
-        let handlers = listing.handlers_at(place);
         let items = listing
             .code
             .between(chunk.entry() as usize, chunk.end() as usize);
-        let mut nodes = Vec::with_capacity(alloc, items.len())?;
-        for (at, op) in items {
-            nodes.push(node_of(alloc, naming, handlers, explained, *at, op)?)?;
-        }
         Ok(Some(Graph {
+            naming: Naming::Program(program),
+            handlers: listing.handlers_at(place),
+            chunk: explained,
+            items,
             title: title_of(alloc, program, listing, place)?,
             wrong: wrong_with(alloc, &explained.refusal)?,
             rule: broken_rule(&explained.refusal),
-            nodes,
             edges: edges_of(alloc, program, items, explained)?,
         }))
+    }
+
+    /// The node of an instruction.
+    ///
+    /// # Errors
+    /// [`AllocError`] if memory was refused.
+    pub fn node(&self, alloc: Global, item: &(usize, Op)) -> Result<Node, AllocError> {
+        let (at, op) = item;
+        node_of(alloc, self.naming, self.handlers, self.chunk, *at, op)
+    }
+
+    /// The address of the instruction in a row.
+    pub fn address(&self, row: usize) -> Option<usize> {
+        let (at, _) = self.items.get(row)?;
+        Some(*at)
     }
 
     /// Whether the chunk is refused.

@@ -8,7 +8,10 @@ use crate::edges::{Edge, EdgeKind};
 use crate::graph::{Graph, Node, Standing};
 use crate::labels::columns;
 use crate::lanes::Lanes;
+use grain_code::Op;
 use std::alloc::{AllocError, Global};
+use std::io;
+use std::io::Write;
 
 /// From the middle of one row to that of the next.
 const ROW: usize = 34;
@@ -62,15 +65,6 @@ fn column(letters: usize) -> usize {
     letters.saturating_mul(LETTER).saturating_add(30)
 }
 
-/// The letters of the longest of these texts, at least as many as given.
-fn longest<F: Fn(&Node) -> &str>(nodes: &[Node], least: usize, text: F) -> usize
-    requires { F.IsAlwaysCallable text }
-{
-    nodes
-        .iter()
-        .fold(least, |most, node| most.max(columns(text(node))))
-}
-
 /// What is said in the place of counts.
 fn said_of(node: &Node) -> &str {
     match node.standing {
@@ -80,17 +74,49 @@ fn said_of(node: &Node) -> &str {
     }
 }
 
+/// How many letters the longest text of each column has.
+#[derive(Clone, Copy)]
+struct Letters {
+    labels: usize,
+    counts: usize,
+    bases: usize,
+}
+
+impl Letters {
+    /// The same with a node more.
+    fn with(self, node: &Node) -> Letters {
+        Letters {
+            labels: self.labels.max(columns(&node.label)),
+            counts: self.counts.max(columns(said_of(node))),
+            bases: self.bases.max(columns(&node.bases)),
+        }
+    }
+
+    /// Those of a graph, whose nodes are made for this.
+    fn of(alloc: Global, graph: &Graph<'_>) -> Result<Letters, AllocError> {
+        let mut letters = Letters {
+            labels: 10,
+            counts: 15,
+            bases: 20,
+        };
+        for item in graph.items {
+            let node = graph.node(alloc, item)?;
+            letters = letters.with(&node);
+        }
+        Ok(letters)
+    }
+}
+
 impl Columns {
-    fn of(graph: &Graph, lanes: usize) -> Columns {
-        let nodes = &graph.nodes;
+    fn of(graph: &Graph<'_>, letters: Letters, lanes: usize) -> Columns {
         let left = lanes
             .saturating_add(1)
             .saturating_mul(LANE)
             .saturating_add(30);
         let instruction = left.saturating_add(86);
-        let counts = instruction.saturating_add(column(longest(nodes, 10, |node| &node.label)));
-        let bases = counts.saturating_add(column(longest(nodes, 15, said_of)));
-        let width = bases.saturating_add(column(longest(nodes, 20, |node| &node.bases)));
+        let counts = instruction.saturating_add(column(letters.labels));
+        let bases = counts.saturating_add(column(letters.counts));
+        let width = bases.saturating_add(column(letters.bases));
         let title = left.saturating_add(columns(&graph.title).saturating_mul(9));
         Columns {
             left,
@@ -108,7 +134,7 @@ fn middle(row: usize) -> usize {
 }
 
 /// Appends what is above the instructions.
-fn push_headings(graph: &Graph, at: Columns, out: &mut String) -> Result<(), AllocError> {
+fn push_headings(graph: &Graph<'_>, at: Columns, out: &mut String) -> Result<(), AllocError> {
     let colour = if graph.is_refused() {
         Colour::Red
     } else {
@@ -193,17 +219,46 @@ fn push_edge(edge: &Edge, lanes: &Lanes, at: Columns, out: &mut String) -> Resul
     push_jump(side, side.saturating_sub(shift), from, to, pen, out)
 }
 
-/// Appends the edges that are on a path to the flaw, or all others.
-fn push_edges(
-    graph: &Graph,
+/// Writes an instruction in its row.
+fn write_node<W: Write>(
+    alloc: Global,
+    graph: &Graph<'_>,
+    item: &(usize, Op),
+    row: usize,
+    at: Columns,
+    out: &mut W,
+) -> io::Result<()> {
+    let node = graph.node(alloc, item)?;
+    let mut text = String::new(alloc);
+    push_node(&node, row, at, &mut text)?;
+    out.write_all(text.as_bytes())
+}
+
+/// Writes an arrow of an edge.
+fn write_edge<W: Write>(
+    alloc: Global,
+    edge: &Edge,
+    lanes: &Lanes,
+    at: Columns,
+    out: &mut W,
+) -> io::Result<()> {
+    let mut text = String::new(alloc);
+    push_edge(edge, lanes, at, &mut text)?;
+    out.write_all(text.as_bytes())
+}
+
+/// Writes the edges that are on a path to the flaw, or all others.
+fn write_edges<W: Write>(
+    alloc: Global,
+    graph: &Graph<'_>,
     lanes: &Lanes,
     at: Columns,
     on_path: bool,
-    out: &mut String,
-) -> Result<(), AllocError> {
+    out: &mut W,
+) -> io::Result<()> {
     for edge in &graph.edges {
         if edge.is_on_path == on_path {
-            push_edge(edge, lanes, at, out)?;
+            write_edge(alloc, edge, lanes, at, out)?;
         }
     }
     Ok(())
@@ -235,7 +290,7 @@ fn wrap(
 }
 
 /// What is said below the instructions: what is wrong, and the rule that it breaks.
-fn lines_of(alloc: Global, graph: &Graph, width: usize) -> Result<Vec<String>, AllocError> {
+fn lines_of(alloc: Global, graph: &Graph<'_>, width: usize) -> Result<Vec<String>, AllocError> {
     let mut lines = Vec::new(alloc);
     if graph.is_refused() {
         wrap(alloc, &graph.wrong, width, &mut lines)?;
@@ -261,25 +316,53 @@ fn push_lines(lines: &[String], x: usize, top: usize, out: &mut String) -> Resul
     Ok(())
 }
 
-/// Appends a picture of the graph as SVG. Addresses run down the page, each with its instruction and the state there. Jumps are at the
-/// left, those of handlers dashed and blue, and the path to a flaw is red. It takes time by the square of the jumps.
+/// Writes what is above the instructions.
+fn write_front<W: Write>(
+    alloc: Global,
+    graph: &Graph<'_>,
+    at: Columns,
+    height: usize,
+    out: &mut W,
+) -> io::Result<()> {
+    let mut text = String::new(alloc);
+    begin(at.width, height, &graph.title, &mut text)?;
+    push_headings(graph, at, &mut text)?;
+    out.write_all(text.as_bytes())
+}
+
+/// Writes what is below the instructions.
+fn write_back<W: Write>(
+    alloc: Global,
+    lines: &[String],
+    x: usize,
+    top: usize,
+    out: &mut W,
+) -> io::Result<()> {
+    let mut text = String::new(alloc);
+    push_lines(lines, x, top, &mut text)?;
+    text.push_str("</svg>\n")?;
+    out.write_all(text.as_bytes())
+}
+
+/// Writes a picture of the graph as SVG. Addresses run down the page, each with its instruction and the state there. Jumps are at the
+/// left, those of handlers dashed and blue, and the path to a flaw is red. It takes time by the square of the jumps, and memory for the
+/// lanes of these and the text of one node.
 ///
 /// # Errors
-/// [`AllocError`] if an allocation failed.
-pub fn write_svg(alloc: Global, graph: &Graph, out: &mut String) -> Result<(), AllocError> {
-    let lanes = Lanes::of(alloc, graph.nodes.len(), &graph.edges)?;
-    let at = Columns::of(graph, lanes.count());
-    let letters = at.width.saturating_sub(at.left).wrapping_div(7);
-    let lines = lines_of(alloc, graph, letters)?;
-    let below = middle(graph.nodes.len());
+/// The output can't be written, or memory was refused.
+pub fn write_svg<W: Write>(alloc: Global, graph: &Graph<'_>, out: &mut W) -> io::Result<()> {
+    let lanes = Lanes::of(alloc, graph.items.len(), &graph.edges)?;
+    let letters = Letters::of(alloc, graph)?;
+    let at = Columns::of(graph, letters, lanes.count());
+    let width = at.width.saturating_sub(at.left).wrapping_div(7);
+    let lines = lines_of(alloc, graph, width)?;
+    let below = middle(graph.items.len());
     let height = lines.len().saturating_mul(LINE).saturating_add(below);
-    begin(at.width, height, &graph.title, out)?;
-    push_headings(graph, at, out)?;
-    for (row, node) in graph.nodes.iter().enumerate() {
-        push_node(node, row, at, out)?;
+    write_front(alloc, graph, at, height, out)?;
+    for (row, item) in graph.items.iter().enumerate() {
+        write_node(alloc, graph, item, row, at, out)?;
     }
-    push_edges(graph, &lanes, at, false, out)?;
-    push_edges(graph, &lanes, at, true, out)?;
-    push_lines(&lines, at.left.saturating_sub(10), below, out)?;
-    out.push_str("</svg>\n")
+    write_edges(alloc, graph, &lanes, at, false, out)?;
+    write_edges(alloc, graph, &lanes, at, true, out)?;
+    write_back(alloc, &lines, at.left.saturating_sub(10), below, out)
 }

@@ -6,8 +6,9 @@ use crate::object::write_json;
 use crate::text::write_text;
 use grain_lines::{Summary, is_case, without_return};
 use grain_listing::Paint;
-use json::Writer;
+use grain_stream::JsonStream;
 use std::alloc::{AllocError, Global};
+use std::io;
 use std::io::{BufRead, Error, ErrorKind, Write};
 
 /// How listings are written.
@@ -19,6 +20,15 @@ pub enum Form {
     Json,
 }
 
+/// What listings are written to.
+#[derive(Drop)]
+pub enum Listings<W> {
+    /// Text for people.
+    Text(Paint, W),
+    /// JSON for programs.
+    Json(JsonStream<W>),
+}
+
 /// The line without the line feed that ends it, and the carriage return before that.
 fn content(line: &[u8]) -> &[u8] {
     match line {
@@ -28,29 +38,44 @@ fn content(line: &[u8]) -> &[u8] {
 }
 
 /// A listing as text.
-fn text_bytes(alloc: Global, paint: Paint, listing: &Listing) -> Result<Vec<u8>, AllocError> {
+fn text_of(alloc: Global, paint: Paint, listing: &Listing) -> Result<String, AllocError> {
     let mut text = String::new(alloc);
     write_text(paint, listing, &mut text)?;
-    Ok(text.into_bytes())
+    Ok(text)
 }
 
-/// A listing as one object of JSON on a line of its own.
-fn json_bytes(alloc: Global, listing: &Listing) -> Result<Vec<u8>, AllocError> {
-    let mut json = Writer::new(Vec::new(alloc));
-    write_json(alloc, listing, &mut json)?;
-    let mut bytes = json.into_inner();
-    bytes.push(b'\n')?;
-    Ok(bytes)
+/// Writes a listing as text.
+fn put_text<W: Write>(
+    alloc: Global,
+    paint: Paint,
+    listing: &Listing,
+    writer: &mut W,
+) -> io::Result<()> {
+    let text = text_of(alloc, paint, listing)?;
+    writer.write_all(text.as_bytes())
 }
 
-/// A listing as it is written.
-///
-/// # Errors
-/// [`AllocError`] if memory was refused.
-fn listing_bytes(alloc: Global, form: Form, listing: &Listing) -> Result<Vec<u8>, AllocError> {
-    match form {
-        Form::Text(paint) => text_bytes(alloc, paint, listing),
-        Form::Json => json_bytes(alloc, listing),
+impl<W: Write> Listings<W> {
+    /// Listings of this form, of which none is written.
+    pub fn new(alloc: Global, form: Form, writer: W) -> Listings<W> {
+        match form {
+            Form::Text(paint) => Listings::Text(paint, writer),
+            Form::Json => Listings::Json(JsonStream::new(alloc, writer)),
+        }
+    }
+
+    /// Writes a listing, so that it is there at once.
+    fn put(&mut self, alloc: Global, listing: &Listing) -> io::Result<()> {
+        match self {
+            Listings::Text(paint, writer) => {
+                put_text(alloc, *paint, listing, writer)?;
+                writer.flush()
+            }
+            Listings::Json(json) => {
+                write_json(alloc, listing, json)?;
+                json.flush()
+            }
+        }
     }
 }
 
@@ -64,28 +89,17 @@ fn read_line<R: BufRead>(reader: &mut R, line: &mut Vec<u8>) -> Result<bool, Fai
     Ok(count > 0)
 }
 
-/// Writes bytes, so that they are there at once.
-///
-/// # Errors
-/// [`Failure::Write`], or [`Failure::Memory`] if memory for the bytes was refused.
-fn write_out<W: Write>(bytes: &[u8], writer: &mut W) -> Result<(), Failure> {
-    writer.write_all(bytes).map_err(Failure::of_write)?;
-    writer.flush().map_err(Failure::of_write)
-}
-
 /// Writes the listing of a case, and says whether the case is bad.
 ///
 /// # Errors
 /// [`Failure::Write`], or [`Failure::Memory`] if memory was refused.
 fn answer<W: Write>(
     alloc: Global,
-    form: Form,
     case: &[u8],
-    writer: &mut W,
+    listings: &mut Listings<W>,
 ) -> Result<bool, Failure> {
     let listing = Listing::of(alloc, case)?;
-    let bytes = listing_bytes(alloc, form, &listing)?;
-    write_out(&bytes, writer)?;
+    listings.put(alloc, &listing).map_err(Failure::of_write)?;
     Ok(listing.is_bad())
 }
 
@@ -95,9 +109,8 @@ fn answer<W: Write>(
 /// A read failed, a write failed, or memory was refused. What was read before a failed read is listed.
 pub fn run<R: BufRead, W: Write>(
     alloc: Global,
-    form: Form,
     reader: &mut R,
-    writer: &mut W,
+    listings: &mut Listings<W>,
 ) -> Result<Summary, Failure> {
     let mut summary = Summary { cases: 0, bad: 0 };
     let mut line = Vec::new(alloc);
@@ -109,7 +122,7 @@ pub fn run<R: BufRead, W: Write>(
         if !is_case(case) {
             continue;
         }
-        let is_bad = answer(alloc, form, case, writer)?;
+        let is_bad = answer(alloc, case, listings)?;
         summary.count(is_bad);
     }
     Err(Failure::Read(Error::from(ErrorKind::FileTooLarge)))

@@ -14,7 +14,7 @@ mod problem;
 mod text;
 
 use crate::arguments::{Request, request_of};
-use crate::driver::{Form, run};
+use crate::driver::{Form, Listings, run};
 use crate::failure::{Failure, WRONG_ARGUMENTS};
 use clap::error::ErrorKind;
 use grain_lines::status;
@@ -47,8 +47,9 @@ fn words(rt: &HostRuntime) -> Result<Vec<String>, Failure> {
 fn list(rt: &HostRuntime, form: Form) -> Result<u8, Failure> {
     let alloc = rt.alloc();
     let mut reader = BufReader::new(alloc, rt.stdin()).map_err(Failure::of_read)?;
-    let mut writer = BufWriter::new(alloc, rt.stdout()).map_err(Failure::of_write)?;
-    let summary = run(alloc, form, &mut reader, &mut writer)?;
+    let writer = BufWriter::new(alloc, rt.stdout()).map_err(Failure::of_write)?;
+    let mut listings = Listings::new(alloc, form, writer);
+    let summary = run(alloc, &mut reader, &mut listings)?;
     Ok(status(&Ok(summary)))
 }
 

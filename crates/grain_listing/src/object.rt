@@ -11,8 +11,11 @@ use grain_base::Position;
 use grain_code::{Chunk, Flow, Op};
 use grain_explain::{ExplainedChunk, LinkedBase, Refusal as ExplainedRefusal, Row};
 use grain_rules::{Effect, VerifyError};
+use grain_stream::JsonStream;
 use json::Writer;
 use std::alloc::{AllocError, Global};
+use std::io;
+use std::io::Write;
 
 /// Those of what has no rows.
 const NO_HANDLERS: Handlers<'static> = Handlers {
@@ -68,6 +71,25 @@ fn begin_object(name: &str, json: &mut Writer) -> Result<(), AllocError> {
     json.begin_object()
 }
 
+/// Adds a member that is null.
+fn add_null<W: Write>(name: &str, json: &mut JsonStream<W>) -> io::Result<()> {
+    let mut piece = json.piece()?;
+    write_null(name, &mut piece)?;
+    json.add(piece)
+}
+
+/// Begins a member of a stream that is an array.
+fn open_array<W: Write>(name: &str, json: &mut JsonStream<W>) -> io::Result<()> {
+    json.key(name)?;
+    json.begin_array()
+}
+
+/// Begins a member of a stream that is an object.
+fn open_object<W: Write>(name: &str, json: &mut JsonStream<W>) -> io::Result<()> {
+    json.key(name)?;
+    json.begin_object()
+}
+
 /// Writes the base of an armed handler.
 fn write_base(base: &LinkedBase, json: &mut Writer) -> Result<(), AllocError> {
     json.begin_object()?;
@@ -101,16 +123,27 @@ fn write_state(handlers: Handlers<'_>, row: &Row, json: &mut Writer) -> Result<(
     json.end_object()
 }
 
-/// Writes a path, the chunk's entry first.
-fn write_path(
+/// Adds the state at an address.
+fn add_state<W: Write>(
+    handlers: Handlers<'_>,
+    row: &Row,
+    json: &mut JsonStream<W>,
+) -> io::Result<()> {
+    let mut piece = json.piece()?;
+    write_state(handlers, row, &mut piece)?;
+    json.add(piece)
+}
+
+/// Adds a path, the chunk's entry first.
+fn add_path<W: Write>(
     name: &str,
     handlers: Handlers<'_>,
     path: &[Row],
-    json: &mut Writer,
-) -> Result<(), AllocError> {
-    begin_array(name, json)?;
+    json: &mut JsonStream<W>,
+) -> io::Result<()> {
+    open_array(name, json)?;
     for row in path.iter().rev() {
-        write_state(handlers, row, json)?;
+        add_state(handlers, row, json)?;
     }
     json.end_array()
 }
@@ -198,6 +231,21 @@ fn write_item(
     json.end_object()
 }
 
+/// Adds an instruction with the state there, and from where it is reached.
+fn add_item<W: Write>(
+    alloc: Global,
+    naming: Naming<'_>,
+    code: &CodeListing,
+    item: &(usize, Op),
+    handlers: Handlers<'_>,
+    found: Option<(&Row, Option<u32>)>,
+    json: &mut JsonStream<W>,
+) -> io::Result<()> {
+    let mut piece = json.piece()?;
+    write_item(alloc, naming, code, item, handlers, found, &mut piece)?;
+    json.add(piece)
+}
+
 /// Writes a refusal as the verdict has it.
 fn write_error(alloc: Global, error: &VerifyError, json: &mut Writer) -> Result<(), AllocError> {
     let said = format!(in alloc; "{error}")?;
@@ -217,53 +265,70 @@ fn write_sentence(
     write_words("wrong", said.as_str(), json)
 }
 
-/// Writes why something is refused.
-fn write_refusal(
+/// Writes why a chunk is refused, in words.
+fn write_reason(
     alloc: Global,
-    error: &VerifyError,
-    handlers: Handlers<'_>,
-    path: &[Row],
-    other: &[Row],
+    refusal: &ExplainedRefusal,
     json: &mut Writer,
 ) -> Result<(), AllocError> {
-    begin_object("refusal", json)?;
+    let ExplainedRefusal { error, way, other } = refusal;
     write_error(alloc, error, json)?;
-    write_sentence(alloc, error, path, other, json)?;
-    write_words("rule", rule(error), json)?;
-    write_path("path", handlers, path, json)?;
-    write_path("other_path", handlers, other, json)?;
+    write_sentence(alloc, error, way, other, json)?;
+    write_words("rule", rule(error), json)
+}
+
+/// Adds why a chunk is refused, in words.
+fn add_reason<W: Write>(
+    alloc: Global,
+    refusal: &ExplainedRefusal,
+    json: &mut JsonStream<W>,
+) -> io::Result<()> {
+    let mut piece = json.piece()?;
+    write_reason(alloc, refusal, &mut piece)?;
+    json.add(piece)
+}
+
+/// Adds why a chunk is refused, with the paths to its flaw.
+fn add_refusal<W: Write>(
+    alloc: Global,
+    handlers: Handlers<'_>,
+    refusal: &ExplainedRefusal,
+    json: &mut JsonStream<W>,
+) -> io::Result<()> {
+    open_object("refusal", json)?;
+    add_reason(alloc, refusal, json)?;
+    add_path("path", handlers, &refusal.way, json)?;
+    add_path("other_path", handlers, &refusal.other, json)?;
     json.end_object()
 }
 
-/// Writes why a chunk is refused, if it is.
-fn write_chunk_refusal(
+/// Adds why a chunk is refused, if it is.
+fn add_chunk_refusal<W: Write>(
     alloc: Global,
     handlers: Handlers<'_>,
     refusal: &Option<ExplainedRefusal>,
-    json: &mut Writer,
-) -> Result<(), AllocError> {
+    json: &mut JsonStream<W>,
+) -> io::Result<()> {
     match refusal {
-        Some(ExplainedRefusal { error, way, other }) => {
-            write_refusal(alloc, error, handlers, way, other, json)
-        }
-        None => write_null("refusal", json),
+        Some(refusal) => add_refusal(alloc, handlers, refusal, json),
+        None => add_null("refusal", json),
     }
 }
 
-/// Writes the instructions of a chunk.
-fn write_chunk_items(
+/// Adds the instructions of a chunk.
+fn add_chunk_items<W: Write>(
     alloc: Global,
     naming: Naming<'_>,
     code: &CodeListing,
     chunk: &Chunk,
     explained: &ExplainedChunk,
     handlers: Handlers<'_>,
-    json: &mut Writer,
-) -> Result<(), AllocError> {
-    begin_array("items", json)?;
+    json: &mut JsonStream<W>,
+) -> io::Result<()> {
+    open_array("items", json)?;
     for item in code.between(chunk.entry() as usize, chunk.end() as usize) {
         let found = row_at(explained, item.0);
-        write_item(alloc, naming, code, item, handlers, found, json)?;
+        add_item(alloc, naming, code, item, handlers, found, json)?;
     }
     json.end_array()
 }
@@ -276,32 +341,47 @@ fn write_name(naming: Naming<'_>, place: usize, json: &mut Writer) -> Result<(),
     }
 }
 
-/// Writes an explained chunk.
-fn write_chunk(
+/// Writes what a chunk is called, where it is, and what it declares.
+fn write_head(
+    naming: Naming<'_>,
+    place: usize,
+    chunk: &Chunk,
+    json: &mut Writer,
+) -> Result<(), AllocError> {
+    write_name(naming, place, json)?;
+    write_number("entry", u64::from(chunk.entry()), json)?;
+    write_number("end", u64::from(chunk.end()), json)?;
+    write_number("declared", u64::from(chunk.max_stack()), json)
+}
+
+/// Adds what a chunk is called, where it is, and what it declares.
+fn add_head<W: Write>(
+    naming: Naming<'_>,
+    place: usize,
+    chunk: &Chunk,
+    json: &mut JsonStream<W>,
+) -> io::Result<()> {
+    let mut piece = json.piece()?;
+    write_head(naming, place, chunk, &mut piece)?;
+    json.add(piece)
+}
+
+/// Adds an explained chunk.
+fn add_chunk<W: Write>(
     alloc: Global,
     naming: Naming<'_>,
     program: &ProgramListing,
     place: usize,
     chunk: &Chunk,
     explained: &ExplainedChunk,
-    json: &mut Writer,
-) -> Result<(), AllocError> {
+    json: &mut JsonStream<W>,
+) -> io::Result<()> {
     let handlers = program.handlers_at(place);
+    let code = &program.code;
     json.begin_object()?;
-    write_name(naming, place, json)?;
-    write_number("entry", u64::from(chunk.entry()), json)?;
-    write_number("end", u64::from(chunk.end()), json)?;
-    write_number("declared", u64::from(chunk.max_stack()), json)?;
-    write_chunk_refusal(alloc, handlers, &explained.refusal, json)?;
-    write_chunk_items(
-        alloc,
-        naming,
-        &program.code,
-        chunk,
-        explained,
-        handlers,
-        json,
-    )?;
+    add_head(naming, place, chunk, json)?;
+    add_chunk_refusal(alloc, handlers, &explained.refusal, json)?;
+    add_chunk_items(alloc, naming, code, chunk, explained, handlers, json)?;
     json.end_object()
 }
 
@@ -338,8 +418,8 @@ impl<'a> Listed<'a> {
     }
 }
 
-/// Writes why code with chunks is refused before these.
-fn write_refusal_before(
+/// Writes why code with chunks is refused before these, in words.
+fn write_early_reason(
     alloc: Global,
     naming: Naming<'_>,
     error: &VerifyError,
@@ -347,71 +427,94 @@ fn write_refusal_before(
 ) -> Result<(), AllocError> {
     let mut said = String::new(alloc);
     write_early_wrong(naming, error, &mut said)?;
-    begin_object("refusal", json)?;
     write_error(alloc, error, json)?;
     write_words("wrong", said.as_str(), json)?;
-    write_words("rule", early_rule(error), json)?;
-    write_path("path", NO_HANDLERS, &[], json)?;
-    write_path("other_path", NO_HANDLERS, &[], json)?;
+    write_words("rule", early_rule(error), json)
+}
+
+/// Adds why code with chunks is refused before these, in words.
+fn add_early_reason<W: Write>(
+    alloc: Global,
+    naming: Naming<'_>,
+    error: &VerifyError,
+    json: &mut JsonStream<W>,
+) -> io::Result<()> {
+    let mut piece = json.piece()?;
+    write_early_reason(alloc, naming, error, &mut piece)?;
+    json.add(piece)
+}
+
+/// Adds why code with chunks is refused before these. No path leads there.
+fn add_refusal_before<W: Write>(
+    alloc: Global,
+    naming: Naming<'_>,
+    error: &VerifyError,
+    json: &mut JsonStream<W>,
+) -> io::Result<()> {
+    open_object("refusal", json)?;
+    add_early_reason(alloc, naming, error, json)?;
+    add_path("path", NO_HANDLERS, &[], json)?;
+    add_path("other_path", NO_HANDLERS, &[], json)?;
     json.end_object()
 }
 
-/// Writes why code with chunks is refused before these, if it is.
-fn write_early_refusal(
+/// Adds why code with chunks is refused before these, if it is.
+fn add_early_refusal<W: Write>(
     alloc: Global,
     naming: Naming<'_>,
     listed: Listed<'_>,
-    json: &mut Writer,
-) -> Result<(), AllocError> {
+    json: &mut JsonStream<W>,
+) -> io::Result<()> {
     match listed.early_error() {
-        Some(error) => write_refusal_before(alloc, naming, error, json),
-        None => write_null("refusal", json),
+        Some(error) => add_refusal_before(alloc, naming, error, json),
+        None => add_null("refusal", json),
     }
 }
 
-/// Writes the instructions of code that is listed without chunks.
-fn write_items(
+/// Adds the instructions of code that is listed without chunks.
+fn add_items<W: Write>(
     alloc: Global,
     naming: Naming<'_>,
     listed: Listed<'_>,
-    json: &mut Writer,
-) -> Result<(), AllocError> {
-    begin_array("items", json)?;
+    json: &mut JsonStream<W>,
+) -> io::Result<()> {
+    open_array("items", json)?;
     if let Some(code) = listed.bare_code() {
         for item in &code.items {
-            write_item(alloc, naming, code, item, NO_HANDLERS, None, json)?;
+            add_item(alloc, naming, code, item, NO_HANDLERS, None, json)?;
         }
     }
     json.end_array()
 }
 
-fn write_chunks(
+fn add_chunks<W: Write>(
     alloc: Global,
     naming: Naming<'_>,
     listed: Listed<'_>,
-    json: &mut Writer,
-) -> Result<(), AllocError> {
-    begin_array("chunks", json)?;
+    json: &mut JsonStream<W>,
+) -> io::Result<()> {
+    open_array("chunks", json)?;
     if let Listed::Program(program) = listed {
         let pairs = program.chunks.iter().zip(program.explained.chunks.iter());
         for (place, (chunk, explained)) in pairs.enumerate() {
-            write_chunk(alloc, naming, program, place, chunk, explained, json)?;
+            add_chunk(alloc, naming, program, place, chunk, explained, json)?;
         }
     }
     json.end_array()
 }
 
-/// Writes what is listed as the members `refusal`, `items` and `chunks` of an object.
+/// Writes what is listed as the members `refusal`, `items` and `chunks` of an object. Besides what is listed it takes memory for the
+/// text of one instruction.
 ///
 /// # Errors
-/// [`AllocError`] if an allocation failed.
-pub fn write_listed(
+/// The output can't be written, or memory was refused.
+pub fn write_listed<W: Write>(
     alloc: Global,
     naming: Naming<'_>,
     listed: Listed<'_>,
-    json: &mut Writer,
-) -> Result<(), AllocError> {
-    write_early_refusal(alloc, naming, listed, json)?;
-    write_items(alloc, naming, listed, json)?;
-    write_chunks(alloc, naming, listed, json)
+    json: &mut JsonStream<W>,
+) -> io::Result<()> {
+    add_early_refusal(alloc, naming, listed, json)?;
+    add_items(alloc, naming, listed, json)?;
+    add_chunks(alloc, naming, listed, json)
 }

@@ -4,11 +4,10 @@ use clap::ArgMatches;
 use grain_cli::arguments::{Argument, FILE, Subcommand};
 use grain_cli::failure::Failure;
 use grain_cli::files::{is_sidecar, program_of, read_bytes, shown, sidecar_of};
-use grain_cli::output::write_text;
+use grain_cli::output::Output;
 use grain_cli::overlaps::refuse_input;
-use grain_dump::{Dump, program_dump, sidecar_dump};
+use grain_dump::{Dump, JsonDump, TextDump, program_dump, sidecar_dump};
 use grain_file::WriteError;
-use std::alloc::Global;
 
 /// `grain dump`
 pub const SUBCOMMAND: Subcommand = Subcommand {
@@ -31,15 +30,51 @@ pub const SUBCOMMAND: Subcommand = Subcommand {
     ],
 };
 
-/// The dump of a file, with its items if they were requested.
-fn dump_of(alloc: Global, path: &str, bytes: &[u8], with_items: bool) -> Result<Dump, Failure> {
-    if is_sidecar(bytes) {
-        let sidecar = sidecar_of(alloc, path, bytes)?;
-        return Ok(sidecar_dump(alloc, &sidecar, with_items)?);
+/// Writes a dump as text or as JSON.
+fn write_dump(
+    rt: &HostRuntime,
+    to: Option<&str>,
+    path: &str,
+    bytes: &[u8],
+    dump: &Dump<'_>,
+    is_json: bool,
+) -> Result<(), Failure> {
+    let alloc = rt.alloc();
+    let output = Output::open(rt, to)?;
+    if is_json {
+        let mut json = JsonDump::new(alloc, output);
+        let done = dump.write(alloc, path, bytes, &mut json);
+        json.into_inner().end(rt, done)
+    } else {
+        let mut text = TextDump::new(alloc, output);
+        let done = dump.write(alloc, path, bytes, &mut text);
+        text.into_inner().end(rt, done)
     }
+}
+
+/// What is dumped, and how.
+#[derive(Clone, Copy)]
+struct Request<'a> {
+    path: &'a str,
+    to: Option<&'a str>,
+    has_items: bool,
+    is_json: bool,
+}
+
+/// Dumps a sidecar.
+fn dump_sidecar(rt: &HostRuntime, request: Request<'_>, bytes: &[u8]) -> Result<(), Failure> {
+    let sidecar = sidecar_of(rt.alloc(), request.path, bytes)?;
+    let dump = sidecar_dump(rt.alloc(), &sidecar, request.has_items)?;
+    write_dump(rt, request.to, request.path, bytes, &dump, request.is_json)
+}
+
+/// Dumps a program.
+fn dump_program(rt: &HostRuntime, request: Request<'_>, bytes: &[u8]) -> Result<(), Failure> {
+    let alloc = rt.alloc();
+    let Request { path, .. } = request;
     let program = program_of(alloc, path, bytes)?;
-    match program_dump(alloc, &program, with_items) {
-        Ok(dump) => Ok(dump),
+    match program_dump(alloc, &program, request.has_items) {
+        Ok(dump) => write_dump(rt, request.to, path, bytes, &dump, request.is_json),
         Err(WriteError::OutOfMemory) => Err(Failure::OutOfMemory),
         Err(error) => Err(Failure::of(alloc, shown(path), error)),
     }
@@ -47,16 +82,18 @@ fn dump_of(alloc: Global, path: &str, bytes: &[u8], with_items: bool) -> Result<
 
 /// Lists the sections of a file.
 pub fn run(rt: &HostRuntime, matches: &ArgMatches<'_>) -> Result<u8, Failure> {
-    let alloc = rt.alloc();
-    let path = matches.get_str("FILE").unwrap_or("-");
-    let to = matches.get_str("output");
-    refuse_input(rt, to, path)?;
-    let bytes = read_bytes(rt, path)?;
-    let dump = dump_of(alloc, path, &bytes, matches.get_flag("hex"))?;
-    if matches.get_flag("json") {
-        write_text(rt, to, &dump.json(alloc, path, &bytes)?)?;
+    let request = Request {
+        path: matches.get_str("FILE").unwrap_or("-"),
+        to: matches.get_str("output"),
+        has_items: matches.get_flag("hex"),
+        is_json: matches.get_flag("json"),
+    };
+    refuse_input(rt, request.to, request.path)?;
+    let bytes = read_bytes(rt, request.path)?;
+    if is_sidecar(&bytes) {
+        dump_sidecar(rt, request, &bytes)?;
     } else {
-        write_text(rt, to, dump.text(alloc, &bytes)?.as_bytes())?;
+        dump_program(rt, request, &bytes)?;
     }
     Ok(0)
 }

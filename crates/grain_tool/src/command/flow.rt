@@ -8,11 +8,13 @@ use grain_cli::arguments::{Argument, FILE, Subcommand};
 use grain_cli::failure::Failure;
 use grain_cli::files::shown;
 use grain_cli::loading::{WORK, admit, allowed_of};
-use grain_cli::output::write_text;
+use grain_cli::output::Output;
 use grain_cli::overlaps::refuse_input;
 use grain_flow::{Graph, write_dot, write_svg};
 use grain_listing::{ProgramListing, name_of};
 use std::alloc::{AllocError, Global};
+use std::io;
+use std::io::Write;
 
 /// `grain flow`
 pub const SUBCOMMAND: Subcommand = Subcommand {
@@ -63,41 +65,58 @@ fn undrawn(alloc: Global, path: &str, listing: &ProgramListing) -> Failure {
     }
 }
 
-/// The text of a picture, for Graphviz or as SVG.
-fn picture_of(alloc: Global, graph: &Graph, is_dot: bool) -> Result<String, AllocError> {
-    let mut text = String::new(alloc);
+/// Writes a picture, for Graphviz or as SVG.
+fn write_picture<W: Write>(
+    alloc: Global,
+    graph: &Graph<'_>,
+    is_dot: bool,
+    output: &mut W,
+) -> io::Result<()> {
     if is_dot {
-        write_dot(graph, &mut text)?;
+        write_dot(alloc, graph, output)
     } else {
-        write_svg(alloc, graph, &mut text)?;
+        write_svg(alloc, graph, output)
     }
-    Ok(text)
 }
 
 /// The control flow of the function with a name, if one has it and is explained.
-fn graph_of(
+fn graph_of<'a>(
     alloc: Global,
-    program: &Program,
-    listing: &ProgramListing,
+    program: &'a Program,
+    listing: &'a ProgramListing,
     name: Option<&str>,
-) -> Result<Option<Graph>, AllocError> {
+) -> Result<Option<Graph<'a>>, AllocError> {
     match place_of(program, listing, name) {
         Some(place) => Graph::of(alloc, program, listing, place),
         None => Ok(None),
     }
 }
 
-/// The picture of a function of a program.
-fn drawn(
-    alloc: Global,
+/// Writes the picture of a graph.
+fn draw(
+    rt: &HostRuntime,
+    to: Option<&str>,
+    graph: &Graph<'_>,
+    is_dot: bool,
+) -> Result<(), Failure> {
+    let mut output = Output::open(rt, to)?;
+    let done = write_picture(rt.alloc(), graph, is_dot, &mut output);
+    output.end(rt, done)
+}
+
+/// Writes the picture of a function of a program.
+fn draw_function(
+    rt: &HostRuntime,
     path: &str,
+    to: Option<&str>,
     program: &Program,
     name: Option<&str>,
     is_dot: bool,
-) -> Result<String, Failure> {
+) -> Result<(), Failure> {
+    let alloc = rt.alloc();
     let listing = explained(alloc, program)?;
     match graph_of(alloc, program, &listing, name)? {
-        Some(graph) => Ok(picture_of(alloc, &graph, is_dot)?),
+        Some(graph) => draw(rt, to, &graph, is_dot),
         None => Err(undrawn(alloc, path, &listing)),
     }
 }
@@ -110,7 +129,6 @@ pub fn run(rt: &HostRuntime, matches: &ArgMatches<'_>) -> Result<u8, Failure> {
     refuse_input(rt, to, path)?;
     let program = program_in(rt, path)?;
     admit(rt.alloc(), path, allowed_of(matches), &program)?;
-    let text = drawn(rt.alloc(), path, &program, name, is_dot)?;
-    write_text(rt, to, text.as_bytes())?;
+    draw_function(rt, path, to, &program, name, is_dot)?;
     Ok(0)
 }

@@ -5,7 +5,6 @@ use grain::{Caps, Flags, Program, VerifyError};
 use grain_cli::arguments::{Argument, FILE, Subcommand};
 use grain_cli::failure::Failure;
 use grain_cli::files::{read_program, shown};
-use grain_cli::json_lines::{line_of, writer};
 use grain_cli::loading::{
     Allowed, Obstacle, WORK, allowed_of, obstacle_before, push_lacking, refused,
 };
@@ -15,8 +14,11 @@ use grain_listing::{
     Colours, Kind, Listed, Naming, Paint, ProgramListing, Style, count_parts, push_shown,
     write_listed, write_part,
 };
+use grain_stream::JsonStream;
 use json::Writer;
 use std::alloc::{AllocError, Global};
+use std::io;
+use std::io::Write;
 
 /// `grain list`
 pub const SUBCOMMAND: Subcommand = Subcommand {
@@ -106,67 +108,71 @@ fn part_of(
 }
 
 /// Writes the parts of a listing, one after another.
-fn write_parts(
-    rt: &HostRuntime,
-    output: &mut Output,
+fn write_parts<W: Write>(
+    alloc: Global,
+    output: &mut W,
     style: Style<'_>,
     listing: &ProgramListing,
-) -> Result<(), Failure> {
+) -> io::Result<()> {
     for place in 0..count_parts(listing) {
-        let text = part_of(rt.alloc(), style, listing, place)?;
-        output.write(rt, text.as_bytes())?;
+        let text = part_of(alloc, style, listing, place)?;
+        output.write_all(text.as_bytes())?;
     }
     Ok(())
 }
 
 /// Writes a listing as text.
-fn write_as_text(
-    rt: &HostRuntime,
-    output: &mut Output,
+fn write_as_text<W: Write>(
+    alloc: Global,
+    output: &mut W,
     style: Style<'_>,
     path: &str,
     listing: &ProgramListing,
     refusal: Option<&str>,
-) -> Result<(), Failure> {
-    let heading = heading_of(rt.alloc(), style.paint, shown(path), refusal)?;
-    output.write(rt, heading.as_bytes())?;
-    write_parts(rt, output, style, listing)
+) -> io::Result<()> {
+    let heading = heading_of(alloc, style.paint, shown(path), refusal)?;
+    output.write_all(heading.as_bytes())?;
+    write_parts(alloc, output, style, listing)
 }
 
-/// Appends the listing of a program.
-fn write_object(
-    alloc: Global,
-    path: &str,
-    naming: Naming<'_>,
-    listing: &ProgramListing,
-    refusal: Option<&str>,
-    json: &mut Writer,
-) -> Result<(), AllocError> {
-    json.begin_object()?;
+/// Writes what a file is called, and whether its program is accepted.
+fn write_front(path: &str, refusal: Option<&str>, json: &mut Writer) -> Result<(), AllocError> {
     json.key("file")?;
     json.string(path)?;
     json.key("accepted")?;
     json.boolean(refusal.is_none())?;
     json.key("error")?;
     match refusal {
-        None => json.null()?,
-        Some(error) => json.string(error)?,
+        None => json.null(),
+        Some(error) => json.string(error),
     }
-    write_listed(alloc, naming, Listed::Program(listing), json)?;
-    json.end_object()
 }
 
-/// The listing of a program as a line of JSON.
-fn object_of(
+/// Adds what a file is called, and whether its program is accepted.
+fn add_front<W: Write>(
+    path: &str,
+    refusal: Option<&str>,
+    json: &mut JsonStream<W>,
+) -> io::Result<()> {
+    let mut piece = json.piece()?;
+    write_front(path, refusal, &mut piece)?;
+    json.add(piece)
+}
+
+/// Writes a listing as a line of JSON.
+fn write_as_json<W: Write>(
     alloc: Global,
+    json: &mut JsonStream<W>,
     path: &str,
     naming: Naming<'_>,
     listing: &ProgramListing,
     refusal: Option<&str>,
-) -> Result<Vec<u8>, AllocError> {
-    let mut json = writer(alloc);
-    write_object(alloc, path, naming, listing, refusal, &mut json)?;
-    line_of(json)
+) -> io::Result<()> {
+    json.begin_object()?;
+    add_front(path, refusal, json)?;
+    write_listed(alloc, naming, Listed::Program(listing), json)?;
+    json.end_object()?;
+    json.end_line()
 }
 
 /// The explanation of a program. A verdict that memory ran out is none.
@@ -178,10 +184,38 @@ pub fn explained(alloc: Global, program: &Program) -> Result<ProgramListing, All
     }
 }
 
+/// Writes the listing of a program as text with these colours.
+fn write_text(
+    rt: &HostRuntime,
+    output: Output,
+    style: Style<'_>,
+    path: &str,
+    listing: &ProgramListing,
+    refusal: Option<&str>,
+) -> Result<(), Failure> {
+    let mut output = output;
+    let done = write_as_text(rt.alloc(), &mut output, style, path, listing, refusal);
+    output.end(rt, done)
+}
+
+/// Writes the listing of a program as JSON.
+fn write_json(
+    rt: &HostRuntime,
+    output: Output,
+    path: &str,
+    naming: Naming<'_>,
+    listing: &ProgramListing,
+    refusal: Option<&str>,
+) -> Result<(), Failure> {
+    let mut json = JsonStream::new(rt.alloc(), output);
+    let done = write_as_json(rt.alloc(), &mut json, path, naming, listing, refusal);
+    json.into_inner().end(rt, done)
+}
+
 /// Writes the listing of a program: as text with these colours, or as JSON if there are none.
 fn write_listing(
     rt: &HostRuntime,
-    output: &mut Output,
+    to: Option<&str>,
     path: &str,
     program: &Program,
     missing: Caps,
@@ -191,11 +225,12 @@ fn write_listing(
     let naming = Naming::Program(program);
     let refusal = refusal_of(rt.alloc(), &listing, missing)?;
     let refusal = refusal.as_deref();
+    let output = Output::open(rt, to)?;
     match paint {
-        None => output.write(rt, &object_of(rt.alloc(), path, naming, &listing, refusal)?),
+        None => write_json(rt, output, path, naming, &listing, refusal),
         Some(paint) => {
             let style = Style { paint, naming };
-            write_as_text(rt, output, style, path, &listing, refusal)
+            write_text(rt, output, style, path, &listing, refusal)
         }
     }
 }
@@ -226,8 +261,6 @@ pub fn run(rt: &HostRuntime, matches: &ArgMatches<'_>) -> Result<u8, Failure> {
     };
     let program = read_program(rt, path)?;
     let missing = missing_of(rt.alloc(), path, allowed_of(matches), &program)?;
-    let mut output = Output::open(rt, to)?;
-    let done = write_listing(rt, &mut output, path, &program, missing, paint);
-    output.end(rt, done)?;
+    write_listing(rt, to, path, &program, missing, paint)?;
     Ok(0)
 }

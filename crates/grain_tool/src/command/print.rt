@@ -9,6 +9,8 @@ use grain_cli::output::Output;
 use grain_cli::overlaps::refuse_input;
 use grain_print::Printer;
 use std::alloc::{AllocError, Global};
+use std::io;
+use std::io::Write;
 
 /// `grain print`
 pub const SUBCOMMAND: Subcommand = Subcommand {
@@ -26,11 +28,11 @@ fn piece_of(alloc: Global, printer: &Printer<'_>, index: usize) -> Result<String
 }
 
 /// Writes the assembly text of a program, piece by piece.
-fn write_pieces(rt: &HostRuntime, output: &mut Output, program: &Program) -> Result<(), Failure> {
-    let printer = Printer::new(rt.alloc(), program)?;
+fn write_pieces<W: Write>(alloc: Global, output: &mut W, program: &Program) -> io::Result<()> {
+    let printer = Printer::new(alloc, program)?;
     for index in 0..printer.count_pieces() {
-        let text = piece_of(rt.alloc(), &printer, index)?;
-        output.write(rt, text.as_bytes())?;
+        let text = piece_of(alloc, &printer, index)?;
+        output.write_all(text.as_bytes())?;
     }
     Ok(())
 }
@@ -42,7 +44,7 @@ pub fn run(rt: &HostRuntime, matches: &ArgMatches<'_>) -> Result<u8, Failure> {
     refuse_input(rt, to, path)?;
     let program = read_program(rt, path)?;
     let mut output = Output::open(rt, to)?;
-    let done = write_pieces(rt, &mut output, &program);
+    let done = write_pieces(rt.alloc(), &mut output, &program);
     output.end(rt, done)?;
     Ok(0)
 }

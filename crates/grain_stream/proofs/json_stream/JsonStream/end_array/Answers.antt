@@ -1,0 +1,10 @@
+-- What is sent is a piece of one token.
+use Rattle.std.proofs.Common.{ap}
+use Rattle.json.specs.Token.{end_array}
+use Rattle.grain_stream.proofs.Pieces.{and-false, adds_token}
+use Rattle.grain_stream.proofs.json_stream.JsonStream.end_array.Goals as goal
+
+pub returns : goal.returns
+returns c c' =
+    adds_token c'.send.result _ _ _ _ end_array c'.in_ok-end_array.ensures c'.in_ok-json.ensures.before c'.in_ok-json.ensures.tokens (and-false _)
+    (ap c.W.Write.contents c'.start.ensures.output) c'.send.ensures.text c'.send.ensures.place
