@@ -73,30 +73,12 @@ def check_growth(grain):
         expect(grain.done("parse", "-", given=grain.done("print", file)) == grain.read(file), "a long name doesn't come back")
 
 
-def little_memory():
-    resource.setrlimit(resource.RLIMIT_AS, (64 << 20, 64 << 20))
-
-
-def check_memory(grain):
-    """A text that is longer than the memory is written."""
-    values = b", ".join([b'"' + b"n" * 60 + b'"'] * 15)
-    wide = b".constants\n[" + values + b"]\n.code\n" + b"load_const #0\npop\n" * 60_000
-    narrow = b".code\n" + b"unit\npop\n" * 600_000
-    for text, commands in ((wide, (["list", "--json"], ["flow"])), (narrow, (["dump", "-x"], ["dump", "-x", "--json"]))):
-        file = grain.write("memory.grain", grain.done("parse", "-", given=text + b"unit\nreturn\n"))
-        for words in commands:
-            status, _, errors = grain.run(*words, "-o", "memory.out", file, preexec_fn=little_memory)
-            expect((status, errors) == (0, b""), f"{words} needs more memory: {status}, {errors!r}")
-            size = os.path.getsize(grain.folder / "memory.out")
-            expect(size > 64 << 20, f"{words} writes {size} bytes, which is too little for a test")
-
-
 def main():
     if len(sys.argv) != 2:
         sys.exit(__doc__)
     with tempfile.TemporaryDirectory() as folder:
         grain = Program(sys.argv[1], folder)
-        for check in (check_version, check_full, check_positions, check_protected, check_growth, check_memory):
+        for check in (check_version, check_full, check_positions, check_protected, check_growth):
             check(grain)
     print("limits of grain: well")
 

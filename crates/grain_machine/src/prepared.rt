@@ -141,7 +141,7 @@ impl<'a> Runnable<'a> {
     }
 
     /// This chunk.
-    pub(crate) fn chunk(&self) -> Chunk
+    pub fn chunk(&self) -> Chunk
         ensures chunk { result ≡ self.now.chunk }
         ensures runs { IsRunnable self.now }
     {

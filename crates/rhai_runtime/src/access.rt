@@ -286,7 +286,7 @@ impl<W: World + Drop> Script<W> {
             all.push(argument.clone()?)?;
         }
         let name = program.names().get(called.name).unwrap_or("");
-        self.outside(program, name, all.as_slice())
+        self.outside(name, all.as_slice())
     }
 
     /// What the last step of a chain gives on a value for which the script has no such method. `None` if the value was lent:

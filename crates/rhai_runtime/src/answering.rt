@@ -1,5 +1,7 @@
 //! Answers to calls that the embedding program does while the run waits.
-ghost use Rattle.std.specs.Prelude.{◌≡◌, IfErr};
+ghost use Rattle.std.specs.Prelude.{◌≡◌, None, IfErr, IfOk};
+ghost use Rattle.std.specs.Option.{option_copied};
+ghost use Rattle.rhai_runtime.specs.Asked.{asked_of};
 
 use crate::asked::Asked;
 use crate::fault::{Failure, Fault};
@@ -10,7 +12,9 @@ use rhai_values::{Cause, Value};
 impl<W: World + Drop> Script<W> {
     /// The call for which the run waits, if it does.
     #[must_use]
-    pub fn asked(&self) -> Option<&Asked> {
+    pub fn asked(&self) -> Option<&Asked>
+        ensures { option_copied result ≡ asked_of self.now }
+    {
         self.asked.as_ref()
     }
 
@@ -26,12 +30,17 @@ impl<W: World + Drop> Script<W> {
     /// The fault of the call, for [`fail`](grain_machine::Runnable::fail): the limits don't allow the value or the receiver, or
     /// the receiver can't go back.
     pub fn answered(&mut self, value: Value) -> Result<Value, Fault>
-        ensures { IfErr result (λ fault. fault.at ≡ self.old.at) }
+        ensures value { IfOk result (λ given. given ≡ value) }
+        ensures at { IfErr result (λ fault. fault.at ≡ self.old.at) }
+        ensures ended { asked_of self.new ≡ None }
     {
         let returned = self.return_receiver();
         let allowed = self.allowed(&value);
         match (returned, allowed) {
-            (Ok(()), Ok(())) => Ok(value),
+            (Ok(()), Ok(())) => {
+                self.end_fault();
+                Ok(value)
+            }
             (Err(cause), _) | (Ok(()), Err(cause)) => Err(self.failed(
                 self.at,
                 Failure::from(cause),
@@ -42,7 +51,8 @@ impl<W: World + Drop> Script<W> {
     /// The fault of the call for which the run waits, for [`fail`](grain_machine::Runnable::fail). Its receiver goes back where it was
     /// taken from. If it can't, that is the cause.
     pub fn failed_call(&mut self, cause: Cause) -> Fault
-        ensures { result.at ≡ self.old.at }
+        ensures at { result.at ≡ self.old.at }
+        ensures ended { asked_of self.new ≡ None }
     {
         let cause = match self.return_receiver() {
             Ok(()) => cause,
@@ -52,8 +62,9 @@ impl<W: World + Drop> Script<W> {
     }
 
     /// Puts the receiver back where it was taken from.
-    fn return_receiver(&mut self) -> Result<(), Cause>
-        ensures { self.new.at ≡ self.old.at }
+    pub(crate) fn return_receiver(&mut self) -> Result<(), Cause>
+        ensures at { self.new.at ≡ self.old.at }
+        ensures ended { asked_of self.new ≡ None }
     {
         let Some(asked) = self.asked.take() else {
             return Ok(());

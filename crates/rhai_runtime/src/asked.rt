@@ -1,4 +1,6 @@
 //! A call that the embedding program does while the run waits.
+ghost use Rattle.std.specs.Prelude.{◌≡◌, IfSome, Some, slice_get};
+ghost use Rattle.rhai_runtime.specs.Asked.{arguments_of, name_of};
 
 use rhai_values::{Lent, Value};
 
@@ -14,18 +16,24 @@ pub struct Asked {
 impl Asked {
     /// The name of the function.
     #[must_use]
-    pub fn name(&self) -> &str {
+    pub fn name(&self) -> &str
+        ensures { result.now ≡ name_of self.now }
+    {
         self.name.as_str()
     }
 
     /// Its arguments. For a method the first is the value on which it is called.
     #[must_use]
-    pub fn arguments(&self) -> &[Value] {
+    pub fn arguments(&self) -> &[Value]
+        ensures { result.now ≡ arguments_of self.now }
+    {
         self.arguments.as_slice()
     }
 
     /// The first argument, if it was taken out of a variable: the function may change it, and it goes back there.
-    pub fn receiver(&mut self) -> Option<&mut Value> {
+    pub fn receiver(&mut self) -> Option<&mut Value>
+        ensures { IfSome result (λ receiver. slice_get (arguments_of self.old) 0 ≡ Some receiver.now) }
+    {
         match &self.lent {
             Some(_) => self.arguments.first_mut(),
             None => None,

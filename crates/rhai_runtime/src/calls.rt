@@ -1,5 +1,6 @@
 //! Calls: of operators, of functions of the script, the library and the world, and of function pointers.
 ghost use Rattle.std.specs.Prelude.{IfOk, IfSome, length, ◌<◌};
+ghost use Rattle.grain.specs.Program.{Program};
 ghost use Rattle.grain_machine.specs.Reply.{NamesFunction};
 
 use crate::asked::Asked;
@@ -71,7 +72,7 @@ impl<W: World + Drop> Script<W> {
             Some(value) => Ok(Reply::Value(value)),
             None => {
                 let name = program.names().get(name).unwrap_or("");
-                self.call_world(program, name, operands)
+                self.call_world(name, operands)
             }
         }
     }
@@ -93,15 +94,10 @@ impl<W: World + Drop> Script<W> {
     }
 
     /// Calls a function of the world, or has the run wait for what the embedding program returns.
-    fn call_world(
-        &mut self,
-        program: &Program,
-        name: &str,
-        arguments: &[Value],
-    ) -> Result<Reply<Value>, Cause>
-        ensures { IfOk result (NamesFunction program.now) }
+    fn call_world(&mut self, name: &str, arguments: &[Value]) -> Result<Reply<Value>, Cause>
+        ensures { (program : Program) → IfOk result (NamesFunction program) }
     {
-        match self.outside(program, name, arguments)? {
+        match self.outside(name, arguments)? {
             Some(reply) => Ok(reply),
             None => Err(Cause::no_function(self.alloc, name, None, arguments)),
         }
@@ -110,11 +106,10 @@ impl<W: World + Drop> Script<W> {
     /// As [`call_world`](Script::call_world), or `None` if neither has such a function.
     pub(crate) fn outside(
         &mut self,
-        _program: &Program,
         name: &str,
         arguments: &[Value],
     ) -> Result<Option<Reply<Value>>, Cause>
-        ensures { IfOk result (λ given. IfSome given (NamesFunction _program.now)) }
+        ensures { (program : Program) → IfOk result (λ given. IfSome given (NamesFunction program)) }
     {
         if let Some(value) = self.world.call(self.alloc, name, arguments)? {
             return Ok(Some(Reply::Value(value)));
@@ -235,7 +230,7 @@ impl<W: World + Drop> Script<W> {
         }
         match self.call_known(Callee::named(text), arguments)? {
             Some(value) => Ok(Reply::Value(value)),
-            None => self.call_world(program, text, arguments),
+            None => self.call_world(text, arguments),
         }
     }
 

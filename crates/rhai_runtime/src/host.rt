@@ -4,6 +4,7 @@ ghost use Rattle.std.specs.List.{Contains};
 ghost use Rattle.grain_rules.specs.Code.{switch_targets};
 ghost use Rattle.grain_machine.specs.Asked.{IsAsked, IsRequested};
 ghost use Rattle.grain_machine.specs.Reply.{NamesFunction};
+ghost use Rattle.rhai_runtime.specs.Asked.{asked_of};
 
 use crate::fault::{Failure, Fault};
 use crate::script::Script;
@@ -23,7 +24,8 @@ impl<W: World + Drop> Script<W> {
     /// The fault of the operation at an address, which fails so.
     #[cold]
     pub(crate) fn failed(&mut self, at: usize, failure: Failure) -> Fault
-        ensures { result.at ≡ at }
+        ensures at { result.at ≡ at }
+        ensures asked { asked_of self.new ≡ asked_of self.old }
     {
         self.at = at;
         self.begin_fault();
@@ -161,12 +163,14 @@ impl<W: World + Drop> Host for Script<W> {
     }
 
     fn entered(&mut self, _: usize) {
+        self.entered = self.entered.saturating_add(1);
         if self.is_failing() {
             self.end_fault();
         }
     }
 
     fn left(&mut self) {
+        self.entered = self.entered.saturating_sub(1);
         self.ended();
     }
 

@@ -13,6 +13,7 @@ mod calls;
 mod chains;
 mod fault;
 mod host;
+mod runs;
 mod script;
 mod table;
 mod world;

@@ -1,10 +1,12 @@
 //! The script: what operations do.
-ghost use Rattle.std.specs.Prelude.{IfOk};
+ghost use Rattle.std.specs.Prelude.{◌≡◌, IfOk};
 ghost use Rattle.grain_machine.specs.Reply.{NamesFunction};
+ghost use Rattle.rhai_runtime.specs.Asked.{asked_of};
 
 use crate::asked::Asked;
 use crate::chains::{Context, assign_to};
 use crate::fault::Failure;
+use crate::runs::OuterRun;
 use crate::table::Table;
 use crate::world::World;
 use grain::Program;
@@ -31,17 +33,21 @@ pub struct Script<W> {
     pub(crate) limits: SizeLimits,
     pub(crate) variables: Variables,
     /// What went wrong if the machine takes no fault, raised at the next operation.
-    pending: Option<Cause>,
+    pub(crate) pending: Option<Cause>,
     /// Whether nothing is pending, and the limits allow plain values.
-    is_settled: bool,
+    pub(crate) is_settled: bool,
     /// The address of the operation that was done last, in the chunk that runs.
     pub(crate) at: usize,
     /// Whether a fault came that no handler has caught yet.
-    is_failing: bool,
+    pub(crate) is_failing: bool,
     /// The addresses of the calls that this fault ended, the innermost first.
     ended_calls: Vec<usize>,
     /// The call for which the run waits.
     pub(crate) asked: Option<Asked>,
+    /// How many functions were entered and not left.
+    pub(crate) entered: usize,
+    /// The runs that wait while the last one is under way, the last that began at the end.
+    pub(crate) outer: Vec<OuterRun>,
 }
 
 impl<W: World + Drop> Script<W> {
@@ -73,6 +79,8 @@ impl<W: World + Drop> Script<W> {
             is_failing: false,
             ended_calls: Vec::new(alloc),
             asked: None,
+            entered: 0,
+            outer: Vec::new(alloc),
         })
     }
 
@@ -105,24 +113,19 @@ impl<W: World + Drop> Script<W> {
         self.is_failing
     }
 
-    /// A run begins: nothing of an earlier one is left but the named variables.
-    pub(crate) fn begin_run(&mut self) {
-        self.variables.begin_run();
-        self.pending = None;
-        self.asked = None;
-        self.is_settled = self.limits.allow(Value::Unit.measure());
-        self.end_fault();
-    }
-
     /// A fault comes: the calls that end until it is caught are its backtrace.
     #[cold]
-    pub(crate) fn begin_fault(&mut self) {
+    pub(crate) fn begin_fault(&mut self)
+        ensures { asked_of self.new ≡ asked_of self.old }
+    {
         self.is_failing = true;
         self.ended_calls.clear();
     }
 
     /// The fault is no longer under way: a handler caught it, or another run has begun.
-    pub(crate) fn end_fault(&mut self) {
+    pub(crate) fn end_fault(&mut self)
+        ensures { asked_of self.new ≡ asked_of self.old }
+    {
         self.is_failing = false;
         self.ended_calls.clear();
     }

@@ -1,0 +1,2 @@
+-- lemmas
+pub mod Reporting

@@ -1,0 +1,53 @@
+-- Events by which runs end.
+use Rattle.std.specs.Prelude.{◌≡◌, ⊤, ℕ, Option, Some, None}
+use Rattle.grain_code.specs.Span.{Span}
+use Rattle.grain.specs.Program.{Program}
+use Rattle.grain_machine.specs.Resuming.{HasEnded}
+use Rattle.grain_machine.specs.declared.step.Outcome.{Outcome}
+use Rattle.grain_machine.specs.declared.step.Outcome.TheVariants as outcomes
+use Rattle.rhai_values.specs.declared.value.Value.{Value}
+use Rattle.rhai_values.specs.declared.value.Value.TheVariants as values
+use Rattle.rhai_values.specs.declared.walk.Walk.{Walk}
+use Rattle.rhai_runtime.specs.declared.fault.Fault.{Fault}
+use Rattle.rhai_engine.specs.declared.event.BeginError.{BeginError}
+use Rattle.rhai_engine.specs.declared.event.BeginError.TheVariants as refusals
+use Rattle.rhai_engine.specs.declared.event.Event.{Event}
+use Rattle.rhai_engine.specs.declared.event.Event.TheVariants as events
+
+-- a run that pauses ends in no other way
+abbrev pub CanEnd : Outcome Value Fault → Type 0
+CanEnd (outcomes.Returned value) = ⊤
+CanEnd (outcomes.Faulted fault) = ⊤
+CanEnd (outcomes.Uncatchable fault) = ⊤
+CanEnd outcomes.OutOfFuel = ⊥
+CanEnd outcomes.OutOfMemory = ⊤
+CanEnd outcomes.Unanswered = ⊥
+
+-- what a run returned, which is unit if that is no value
+abbrev pub value_or_unit : Option Value → Value
+value_or_unit (Some value) = value
+value_or_unit None = values.Unit
+
+abbrev pub event_of : Outcome Value Fault → Event
+event_of (outcomes.Returned value) = events.Returned (value_or_unit value)
+event_of (outcomes.Faulted fault) = events.Failed fault
+event_of (outcomes.Uncatchable fault) = events.Failed fault
+event_of outcomes.OutOfFuel = events.Paused
+event_of outcomes.OutOfMemory = events.OutOfMemory
+event_of outcomes.Unanswered = events.Calls
+
+-- a kept run of the chunk, with at most this number of frames that wait, has ended as the event says
+pub record EndsRun (p : Program) (depth : ℕ) (chunk : Span) (event : Event) : Type 0 where
+  pub turns : ℕ
+  pub at : ℕ
+  pub outcome : Outcome Value Fault
+  pub ended : HasEnded Walk p depth chunk turns at outcome
+  pub is : event ≡ event_of outcome
+
+-- a run of a function doesn't begin for another reason than those that are under way
+abbrev pub IsLate : BeginError → Type 0
+IsLate refusals.NoFunction = ⊤
+IsLate refusals.TooManyRuns = ⊥
+IsLate refusals.Busy = ⊥
+IsLate refusals.TooLarge = ⊤
+IsLate refusals.OutOfMemory = ⊤

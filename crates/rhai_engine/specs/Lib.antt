@@ -1,0 +1,4 @@
+-- what is promised
+pub mod Ends
+pub mod Runs
+pub mod Session

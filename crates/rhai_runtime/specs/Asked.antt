@@ -1,0 +1,16 @@
+-- Calls for which runs wait.
+use Rattle.std.specs.Prelude.{ℕ, List, Option}
+use Rattle.rhai_values.specs.declared.value.Value.{Value}
+use Rattle.rhai_runtime.specs.declared.asked.Asked.{Asked}
+use Rattle.rhai_runtime.specs.declared.script.Script.{Script}
+
+-- the bytes of the name of its function
+abbrev pub name_of : Asked → List ℕ
+name_of asked = asked.name.bytes.items
+
+abbrev pub arguments_of : Asked → List Value
+arguments_of asked = asked.arguments.items
+
+-- the call for which the run of a script waits
+abbrev pub asked_of : {W : Type 0} → Script W → Option Asked
+asked_of script = script.asked

@@ -1,0 +1,104 @@
+//! Runs of a script, one after the other, or one while another waits for a call of the embedding program.
+ghost use Rattle.std.specs.Prelude.{IfSome, length, ◌<◌};
+
+use crate::asked::Asked;
+use crate::script::Script;
+use crate::world::World;
+use grain::Program;
+use grain_machine::Host;
+use rhai_values::{Cause, Value, Variables};
+
+/// What a script keeps of a run that waits while a function is run from outside.
+#[derive(Drop)]
+pub(crate) struct OuterRun {
+    /// The call for which it waits.
+    asked: Option<Asked>,
+    /// How many functions had been entered and not left.
+    entered: usize,
+}
+
+impl<W: World + Drop> Script<W> {
+    /// The function of the program that has this name and number of parameters, and is declared for no type of `this`.
+    #[must_use]
+    pub fn function(&self, program: &Program, name: &str, params: usize) -> Option<usize>
+        ensures { IfSome result (λ index. index < length program.now.functions) }
+    {
+        let name = self.table.index_of(name)?;
+        self.table.function(program, name, params)
+    }
+
+    /// The index of a name of the program.
+    #[must_use]
+    pub fn name_index(&self, name: &str) -> Option<u32> {
+        self.table.index_of(name)
+    }
+
+    /// The value of the variable of this name: one that code finds by its name, and in no slot.
+    #[must_use]
+    pub fn named_variable(&self, name: &str) -> Option<&Value> {
+        self.variables.named(self.table.index_of(name)?)
+    }
+
+    /// Drops all variables. The caller must drop all runs.
+    pub fn clear_variables(&mut self) {
+        self.begin_run();
+        self.variables = Variables::new(self.alloc);
+    }
+
+    /// A run begins: nothing of earlier ones is left but the named variables, and what closures share.
+    pub(crate) fn begin_run(&mut self) {
+        // A run that was dropped may have taken values out of named variables.
+        for _run in 0..=self.outer.len() {
+            self.end_run();
+        }
+        self.end_fault();
+    }
+
+    /// A run of a function begins that the embedding program calls: its frame gets the arguments. The caller calls
+    /// [`Host::began`](grain_machine::Host::began) before, unless a run waits: that one keeps its variables, and the call for
+    /// which it waits. [`end_run`](Script::end_run) must follow when the function's run has ended or is dropped.
+    ///
+    /// # Errors
+    /// The limits don't allow an argument, or out of memory. Nothing has changed.
+    pub fn begin_function(&mut self, arguments: &mut [Value]) -> Result<(), Cause> {
+        for argument in arguments.iter() {
+            self.allowed(argument)?;
+        }
+        self.outer.reserve(1)?;
+        self.variables.begin(arguments, self.at)?;
+        let asked = self.asked.take();
+        let entered = self.entered;
+        self.outer.push_reserved(OuterRun { asked, entered });
+        Ok(())
+    }
+
+    /// The last run has ended, or is dropped. Its frames are dropped, and values that it took out of variables go back there. If
+    /// another run waits, that one is the last again. The [`backtrace`](Script::backtrace) stays.
+    pub fn end_run(&mut self) {
+        // The receiver goes back also if the limits refuse it.
+        let _returned = self.return_receiver();
+        match self.outer.pop() {
+            Some(OuterRun { asked, entered }) => {
+                self.leave(entered);
+                if let Some(call) = self.variables.end() {
+                    self.at = call.at;
+                }
+                self.asked = asked;
+            }
+            None => {
+                self.leave(0);
+                self.variables.begin_run();
+            }
+        }
+        self.pending = None;
+        self.is_settled = self.limits.allow(Value::Unit.measure());
+        self.is_failing = false;
+    }
+
+    /// Leaves the functions that were entered, but this many.
+    fn leave(&mut self, kept: usize) {
+        for _call in kept..self.entered {
+            self.left();
+        }
+    }
+}
