@@ -49,7 +49,7 @@ pub struct Piece {
 
 /// How a dump is written. Each method fails if the output can't be written, or memory was refused.
 pub trait Layout {
-    /// Begins the dump of a file with this name and so many bytes.
+    /// Begins the dump of a file with this name and this number of bytes.
     fn begin(&mut self, file: &str, kind: Kind, size: usize) -> io::Result<()>;
 
     /// Begins a section.

@@ -19,7 +19,7 @@ enum Contents<'a> {
 #[derive(Drop)]
 pub struct Dump<'a> {
     contents: Contents<'a>,
-    /// The parts of the file, in their order. A section begins with a part that is no item of a list.
+    /// The parts of the file, in their order. A section begins with a part that isn't an item of a list.
     outline: Vec<Item>,
     has_pieces: bool,
 }

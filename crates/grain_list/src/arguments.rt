@@ -57,7 +57,7 @@ fn command<'a>(alloc: Global) -> Result<Command<'a>, AllocError> {
 /// What these words ask for, the first of which is the program's name.
 ///
 /// # Errors
-/// A word is no argument of the program, help or the version was requested, or out of memory. The error has the text
+/// A word isn't an argument of the program, help or the version was requested, or out of memory. The error has the text
 /// to print.
 pub fn request_of<'a>(alloc: Global, words: &'a [String]) -> Result<Request, Error> {
     let matches = command(alloc)?.try_get_matches_from(words)?;

@@ -45,7 +45,7 @@ pub record EndsLast (s t : Session) (event : Event) : Type 0 where
   pub was : s.runs ≡ chunk ∷ t.runs
   pub ends : EndsRun s.program s.calls chunk event
 
--- what an event says of the runs
+-- how an event reports the runs
 abbrev pub Reports : Session → Session → Event → Type 0
 Reports s t events.Paused = (t.runs ≡ s.runs) × (t.status ≡ statuses.Ready)
 Reports s t events.Calls = (t.runs ≡ s.runs) × (t.status ≡ statuses.Calls)

@@ -38,13 +38,13 @@ pub enum BadValue {
     /// The name of a function or a key of a map isn't a text.
     #[error("a name or a key is no text")]
     NotName,
-    /// The bytes of a text or a blob begin elsewhere than behind those before them.
+    /// The bytes of a text or a blob don't follow those before them.
     #[error("the bytes of a text begin at another place")]
     TextPlace,
-    /// The bytes of a text or a blob end behind the last byte.
+    /// The bytes of a text or a blob end after the last byte.
     #[error("a text ends behind the last byte")]
     TextEnd,
-    /// A key of a map comes before the key in front of it.
+    /// A key of a map is less than the key before it.
     #[error("the keys of a map are out of order")]
     KeyOrder,
     /// A map has a key twice.

@@ -74,7 +74,7 @@ fn read_limited(
     Ok(values)
 }
 
-/// Reads a value, in which values are nested so deep at most.
+/// Reads a value, in which values are nested at most this deep.
 #[cycle(read_value)]
 fn read_value(reader: &mut Reader<'_>, depth: usize) -> Result<Value, BadValue> {
     let row = reader.row()?;
@@ -159,7 +159,7 @@ fn read_pointer(reader: &mut Reader<'_>, row: CValue, depth: usize) -> Result<Va
     Ok(Value::Pointer(Rc::new(reader.alloc, Pointer::new(name, bound))?))
 }
 
-/// Reads so many values.
+/// Reads this number of values.
 #[cycle(read_value)]
 fn read_all(reader: &mut Reader<'_>, count: u32, depth: usize) -> Result<Vec<Value>, BadValue> {
     let mut values = Vec::new(reader.alloc);
@@ -178,7 +178,7 @@ fn read_map(reader: &mut Reader<'_>, row: CValue, depth: usize) -> Result<Value,
     Ok(Value::Map(Rc::new(reader.alloc, object)?))
 }
 
-/// Reads so many entries.
+/// Reads this number of entries.
 #[cycle(read_value)]
 fn read_entries(reader: &mut Reader<'_>, count: u32, depth: usize) -> Result<Object, BadValue> {
     let mut object = Object::new(reader.alloc);
@@ -192,7 +192,7 @@ fn read_entries(reader: &mut Reader<'_>, count: u32, depth: usize) -> Result<Obj
     Ok(object)
 }
 
-/// Whether a key comes behind those of an object map.
+/// Whether a key is greater than those of an object map.
 fn comes_last(object: &Object, key: &str) -> Result<(), BadValue> {
     let Some((last, _)) = object.entries().last_key_value() else {
         return Ok(());

@@ -15,7 +15,7 @@ use std::collections::BTreeMap;
 
 /// Values in flat form, one after another.
 ///
-/// Each value is a row, and behind it the rows of what is in it. The bytes of texts and blobs are in the order of their rows,
+/// Each value is a row, followed by the rows of what is in it. The bytes of texts and blobs are in the order of their rows,
 /// without gaps.
 #[derive(Drop)]
 pub struct FlatValues {
