@@ -4,10 +4,10 @@ use Rattle.std.specs.Option.{IsSomeAnd}
 use Rattle.std.proofs.lemmas.Option.{slice_get-get_or, slice_get_cases}
 use Rattle.std.proofs.Math.ListN.{get_or-append}
 use Rattle.grain_pools.specs.declared.assign_op.AssignOp.{AssignOp}
-use Rattle.grain_parse.specs.Blanks.{ReadsText, unblanked}
+use Rattle.grain_lexer.specs.Blanks.{ReadsText, unblanked}
 use Rattle.grain_parse.specs.Entries.{AreSameAssignOps, Enters, HasEntryAt, IsMadeOf, ReadsAssignOpIndex}
 use Rattle.grain_base.specs.Operators.{base_operator_of, text_of}
-use Rattle.grain_parse.proofs.ReadNumbers.{text_again}
+use Rattle.grain_lexer.proofs.ReadNumbers.{text_again}
 use Rattle.grain_print.specs.Spellings.{spelling_at}
 
 weaker : {A : Type 0} (P Q : A → Type 0) (o : Option A) → ((x : A) → P x → Q x) → IsSomeAnd o P → IsSomeAnd o Q

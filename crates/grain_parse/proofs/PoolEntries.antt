@@ -4,13 +4,13 @@ use Rattle.std.specs.Option.{IfSome, IsSomeAnd}
 use Rattle.std.specs.List.{AllWithin, HoldsAt}
 use Rattle.std.proofs.lemmas.Option.{slice_get-get_or}
 use Rattle.std.proofs.Math.Seq.{get_or-append_seam}
-use Rattle.grain_parse.specs.Blanks.{unblanked}
+use Rattle.grain_lexer.specs.Blanks.{unblanked}
 use Rattle.grain_base.specs.Tokens.{token_parts}
 use Rattle.grain_base.specs.declared.token.Token.{Token}
 use Rattle.grain_parse.specs.Entries.{Enters, HasEntryAt, ReadsNameIndex, ReadsOperatorIndex}
-use Rattle.grain_parse.specs.Literals.{ReadsName}
-use Rattle.grain_parse.specs.Operators.{ReadsOperator}
-use Rattle.grain_parse.proofs.ReadNumbers.{name_again, operator_again}
+use Rattle.grain_lexer.specs.Literals.{ReadsName}
+use Rattle.grain_lexer.specs.Operators.{ReadsOperator}
+use Rattle.grain_lexer.proofs.ReadNumbers.{name_again, operator_again}
 
 -- what holds at a place is of the entry there
 leads_there : {A : Type 0} (P : A → Type 0) (entries : List A) (place : ℕ) → place < length entries → HoldsAt P entries place → HasEntryAt P entries place

@@ -1,8 +1,8 @@
 -- Addresses as texts write them.
 use Rattle.std.specs.Prelude.{◌≡◌, ◌⊎◌, ◌∷◌, ℕ, List, Some}
 use Rattle.std.specs.HashMap.{get_by_text}
-use Rattle.grain_parse.specs.Blanks.{ReadsText, unblanked}
-use Rattle.grain_parse.specs.Numbers.{ReadsNumeral}
+use Rattle.grain_lexer.specs.Blanks.{ReadsText, unblanked}
+use Rattle.grain_lexer.specs.Numbers.{ReadsNumeral}
 use Rattle.grain_parse.specs.declared.labels.Labels.{Labels}
 
 -- behind the blanks comes a number, or a label that has the address, and then what is left

@@ -9,10 +9,10 @@ use Rattle.grain_base.specs.declared.token.Token.{Token}
 use Rattle.grain_base.specs.declared.value.Dynamic.{Dynamic}
 use Rattle.grain_pools.specs.declared.assign_op.AssignOp.{AssignOp}
 use Rattle.grain_print.specs.Spellings.{spelling_of}
-use Rattle.grain_parse.specs.Blanks.{ReadsText}
-use Rattle.grain_parse.specs.Literals.{ReadsName}
-use Rattle.grain_parse.specs.Numbers.{ReadsIndex}
-use Rattle.grain_parse.specs.Operators.{ReadsOperator}
+use Rattle.grain_lexer.specs.Blanks.{ReadsText}
+use Rattle.grain_lexer.specs.Literals.{ReadsName}
+use Rattle.grain_lexer.specs.Numbers.{ReadsIndex}
+use Rattle.grain_lexer.specs.Operators.{ReadsOperator}
 
 -- an entry with the property is at the index
 abbrev pub HasEntryAt : {A : Type 0} → (A → Type 0) → List A → ℕ → Type 0

@@ -1,11 +1,6 @@
 pub mod Addresses
-pub mod Blanks
 pub mod Directives
 pub mod Drafted
 pub mod Entries
-pub mod Literals
-pub mod Numbers
-pub mod Operators
 pub mod Placed
-pub mod Positions
 pub mod Widths

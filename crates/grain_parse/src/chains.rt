@@ -1,12 +1,11 @@
 //! Chains.
 
-use crate::cursor::Cursor;
-use crate::error::{LineProblem, Stop};
 use crate::pools::Pools;
 use grain_base::Flags;
+use grain_lexer::{LineCursor, LineProblem, LineStop};
 use grain_pools::{Chain, Root, Step, StepFlags, Tail};
 
-fn read_root(pools: &mut Pools, cursor: &mut Cursor<'_>) -> Result<Root, Stop> {
+fn read_root(pools: &mut Pools, cursor: &mut LineCursor<'_>) -> Result<Root, LineStop> {
     let start = cursor.left;
     match cursor.word()? {
         "local" => {
@@ -26,12 +25,12 @@ fn read_root(pools: &mut Pools, cursor: &mut Cursor<'_>) -> Result<Root, Stop> {
         "temporary" => Ok(Root::Temporary),
         _ => {
             cursor.left = start;
-            Err(Stop::Fault(LineProblem::Word))
+            Err(LineStop::Fault(LineProblem::Word))
         }
     }
 }
 
-fn read_flags(cursor: &mut Cursor<'_>) -> Result<StepFlags, Stop> {
+fn read_flags(cursor: &mut LineCursor<'_>) -> Result<StepFlags, LineStop> {
     if !cursor.eat_word("flags") {
         return Ok(StepFlags::from_bits_retain(0));
     }
@@ -39,7 +38,7 @@ fn read_flags(cursor: &mut Cursor<'_>) -> Result<StepFlags, Stop> {
     Ok(StepFlags::from_bits_retain(bits))
 }
 
-fn read_index(cursor: &mut Cursor<'_>) -> Result<Step, Stop> {
+fn read_index(cursor: &mut LineCursor<'_>) -> Result<Step, LineStop> {
     let operand = cursor.number_16()?;
     let flags = read_flags(cursor)?;
     let pos = cursor.position_or_none()?;
@@ -52,7 +51,7 @@ fn read_index(cursor: &mut Cursor<'_>) -> Result<Step, Stop> {
     })
 }
 
-fn read_property(pools: &mut Pools, cursor: &mut Cursor<'_>) -> Result<Step, Stop> {
+fn read_property(pools: &mut Pools, cursor: &mut LineCursor<'_>) -> Result<Step, LineStop> {
     let name = pools.read_name(cursor)?;
     let getter = pools.read_name(cursor)?;
     let setter = pools.read_name(cursor)?;
@@ -67,7 +66,7 @@ fn read_property(pools: &mut Pools, cursor: &mut Cursor<'_>) -> Result<Step, Sto
     })
 }
 
-fn read_method(pools: &mut Pools, cursor: &mut Cursor<'_>) -> Result<Step, Stop> {
+fn read_method(pools: &mut Pools, cursor: &mut LineCursor<'_>) -> Result<Step, LineStop> {
     let name = pools.read_name(cursor)?;
     let argc = cursor.number_8()?;
     let operand = cursor.number_16()?;
@@ -83,7 +82,7 @@ fn read_method(pools: &mut Pools, cursor: &mut Cursor<'_>) -> Result<Step, Stop>
 }
 
 /// Reads a step, or nothing if none is next.
-fn read_step(pools: &mut Pools, cursor: &mut Cursor<'_>) -> Result<Option<Step>, Stop> {
+fn read_step(pools: &mut Pools, cursor: &mut LineCursor<'_>) -> Result<Option<Step>, LineStop> {
     let start = cursor.left;
     match cursor.word()? {
         "index" => Ok(Some(read_index(cursor)?)),
@@ -96,7 +95,7 @@ fn read_step(pools: &mut Pools, cursor: &mut Cursor<'_>) -> Result<Option<Step>,
     }
 }
 
-fn read_steps(pools: &mut Pools, cursor: &mut Cursor<'_>) -> Result<Vec<Step>, Stop> {
+fn read_steps(pools: &mut Pools, cursor: &mut LineCursor<'_>) -> Result<Vec<Step>, LineStop> {
     let mut steps = Vec::new(cursor.alloc);
     for _turn in 0..cursor.left.len() {
         match read_step(pools, cursor)? {
@@ -107,7 +106,7 @@ fn read_steps(pools: &mut Pools, cursor: &mut Cursor<'_>) -> Result<Vec<Step>, S
     Ok(steps)
 }
 
-fn read_tail(pools: &mut Pools, cursor: &mut Cursor<'_>) -> Result<Tail, Stop> {
+fn read_tail(pools: &mut Pools, cursor: &mut LineCursor<'_>) -> Result<Tail, LineStop> {
     let start = cursor.left;
     match cursor.word()? {
         "read" => Ok(Tail::Read),
@@ -122,18 +121,21 @@ fn read_tail(pools: &mut Pools, cursor: &mut Cursor<'_>) -> Result<Tail, Stop> {
         }
         _ => {
             cursor.left = start;
-            Err(Stop::Fault(LineProblem::Word))
+            Err(LineStop::Fault(LineProblem::Word))
         }
     }
 }
 
 /// Reads a chain: its root, its steps, its tail, and how many operands the steps take.
-pub(crate) fn read_chain(pools: &mut Pools, cursor: &mut Cursor<'_>) -> Result<Chain, Stop> {
+pub(crate) fn read_chain(
+    pools: &mut Pools,
+    cursor: &mut LineCursor<'_>,
+) -> Result<Chain, LineStop> {
     let root = read_root(pools, cursor)?;
     let steps = read_steps(pools, cursor)?;
     let tail = read_tail(pools, cursor)?;
     if !cursor.eat_word("operands") {
-        return Err(Stop::Fault(LineProblem::Missing));
+        return Err(LineStop::Fault(LineProblem::Missing));
     }
     let operands = cursor.number_16()?;
     Ok(Chain {

@@ -2,12 +2,11 @@
 ghost use Rattle.std.specs.Prelude.{◌≡◌, IfOk, MatchOption, OnOk, [], length};
 ghost use Rattle.grain_parse.specs.Drafted.{KeepsChunks};
 
-use crate::cursor::Cursor;
-use crate::error::{LineProblem, Stop};
 use crate::labels::Labels;
 use crate::pools::Pools;
 use grain_base::FnAccess;
 use grain_code::{Chunk, Function};
+use grain_lexer::{LineCursor, LineProblem, LineStop};
 use std::alloc::{AllocError, Global};
 
 /// The chunks of a program while its text is read.
@@ -22,7 +21,7 @@ pub(crate) struct Chunks {
 }
 
 /// Reads how many operands a chunk declares: nothing for `auto`.
-fn read_stack(cursor: &mut Cursor<'_>) -> Result<Option<u16>, Stop> {
+fn read_stack(cursor: &mut LineCursor<'_>) -> Result<Option<u16>, LineStop> {
     if !cursor.eat_word("stack") || cursor.eat_word("auto") {
         return Ok(None);
     }
@@ -31,7 +30,7 @@ fn read_stack(cursor: &mut Cursor<'_>) -> Result<Option<u16>, Stop> {
 }
 
 /// Reads the names of parameters, between parentheses.
-fn read_params(pools: &mut Pools, cursor: &mut Cursor<'_>) -> Result<Vec<u32>, Stop> {
+fn read_params(pools: &mut Pools, cursor: &mut LineCursor<'_>) -> Result<Vec<u32>, LineStop> {
     let mut params = Vec::new(cursor.alloc);
     cursor.expect(b'(')?;
     if cursor.eat(b')') {
@@ -45,10 +44,10 @@ fn read_params(pools: &mut Pools, cursor: &mut Cursor<'_>) -> Result<Vec<u32>, S
         }
         cursor.expect(b',')?;
     }
-    Err(Stop::Fault(LineProblem::NoEnd))
+    Err(LineStop::Fault(LineProblem::NoEnd))
 }
 
-fn read_access(cursor: &mut Cursor<'_>) -> FnAccess {
+fn read_access(cursor: &mut LineCursor<'_>) -> FnAccess {
     if cursor.eat_word("private") {
         return FnAccess::Private;
     }
@@ -56,7 +55,7 @@ fn read_access(cursor: &mut Cursor<'_>) -> FnAccess {
     FnAccess::Public
 }
 
-fn read_this_type(pools: &mut Pools, cursor: &mut Cursor<'_>) -> Result<Option<u32>, Stop> {
+fn read_this_type(pools: &mut Pools, cursor: &mut LineCursor<'_>) -> Result<Option<u32>, LineStop> {
     if !cursor.eat_word("on") {
         return Ok(None);
     }
@@ -82,9 +81,9 @@ impl Chunks {
     fn read_chunk(
         &mut self,
         labels: &Labels,
-        cursor: &mut Cursor<'_>,
+        cursor: &mut LineCursor<'_>,
         place: usize,
-    ) -> Result<Chunk, Stop>
+    ) -> Result<Chunk, LineStop>
         ensures main { self.new.main ≡ self.old.main }
         ensures functions { self.new.functions ≡ self.old.functions }
     {
@@ -103,8 +102,8 @@ impl Chunks {
         &mut self,
         pools: &mut Pools,
         labels: &Labels,
-        cursor: &mut Cursor<'_>,
-    ) -> Result<Function, Stop>
+        cursor: &mut LineCursor<'_>,
+    ) -> Result<Function, LineStop>
         ensures main { self.new.main ≡ self.old.main }
         ensures functions { self.new.functions ≡ self.old.functions }
     {
@@ -128,8 +127,8 @@ impl Chunks {
         &mut self,
         pools: &mut Pools,
         labels: &Labels,
-        cursor: &mut Cursor<'_>,
-    ) -> Result<(), Stop>
+        cursor: &mut LineCursor<'_>,
+    ) -> Result<(), LineStop>
         ensures { OnOk result (KeepsChunks self.old self.new) }
     {
         let start = cursor.left;
@@ -146,7 +145,7 @@ impl Chunks {
             }
             word => {
                 cursor.left = start;
-                Err(Stop::Fault(if word == "main" {
+                Err(LineStop::Fault(if word == "main" {
                     LineProblem::MainTwice
                 } else {
                     LineProblem::Word
@@ -156,7 +155,7 @@ impl Chunks {
     }
 
     /// Takes the whole code as the main chunk if the text has none.
-    pub fn complete(&mut self, len: usize) -> Result<Chunk, Stop>
+    pub fn complete(&mut self, len: usize) -> Result<Chunk, LineStop>
         ensures { IfOk result (λ main. MatchOption self.old.main
             (main ≡ record { entry = 0; end = len; max_stack = 65535 })
             (λ read. main ≡ read)) }
@@ -167,7 +166,7 @@ impl Chunks {
         self.automatic.push(0)?;
         match u32::try_from(len) {
             Ok(end) => Ok(Chunk::new(0, end, u16::MAX)),
-            Err(_) => Err(Stop::Fault(LineProblem::TooWide)),
+            Err(_) => Err(LineStop::Fault(LineProblem::TooWide)),
         }
     }
 }

@@ -2,31 +2,30 @@
 ghost use Rattle.std.specs.Prelude.{◌≡◌, ◌<◌, IfOk, OnOk, sum_by, ℕ};
 ghost use Rattle.std.specs.Bool.{OnFalse, OnTrue};
 ghost use Rattle.grain_parse.specs.Addresses.{ReadsLabel};
-ghost use Rattle.grain_parse.specs.Numbers.{ReadsIndex};
+ghost use Rattle.grain_lexer.specs.Numbers.{ReadsIndex};
 ghost use Rattle.grain_parse.specs.Widths.{Appends, operand_width};
 
-use crate::cursor::Cursor;
-use crate::error::{LineProblem, Stop};
 use crate::labels::Labels;
 use crate::pools::Pools;
+use grain_lexer::{LineCursor, LineProblem, LineStop};
 use grain_print::{Operand, form_named};
 
 /// Reads an index without a literal in place.
-fn read_index(cursor: &mut Cursor<'_>) -> Result<u32, Stop>
+fn read_index(cursor: &mut LineCursor<'_>) -> Result<u32, LineStop>
     ensures { IfOk result (λ index. ReadsIndex cursor.old.left.now index cursor.new.left.now) }
 {
     match cursor.index()? {
         Some(index) => Ok(index),
-        None => Err(Stop::Fault(LineProblem::Missing)),
+        None => Err(LineStop::Fault(LineProblem::Missing)),
     }
 }
 
 /// Reads the index that an operand is.
 fn read_pool_index(
     pools: &mut Pools,
-    cursor: &mut Cursor<'_>,
+    cursor: &mut LineCursor<'_>,
     operand: Operand,
-) -> Result<u32, Stop> {
+) -> Result<u32, LineStop> {
     match operand {
         Operand::Constant => pools.read_constant(cursor),
         Operand::Name => pools.read_name(cursor),
@@ -45,9 +44,9 @@ fn read_pool_index(
 /// Reads an index of 16 bits.
 fn read_short_index(
     pools: &mut Pools,
-    cursor: &mut Cursor<'_>,
+    cursor: &mut LineCursor<'_>,
     operand: Operand,
-) -> Result<u16, Stop> {
+) -> Result<u16, LineStop> {
     cursor.blanks();
     let start = cursor.left;
     let index = read_pool_index(pools, cursor, operand)?;
@@ -55,7 +54,7 @@ fn read_short_index(
         Ok(index) => Ok(index),
         Err(_) => {
             cursor.left = start;
-            Err(Stop::Fault(LineProblem::TooWide))
+            Err(LineStop::Fault(LineProblem::TooWide))
         }
     }
 }
@@ -65,9 +64,9 @@ fn read_operand(
     pools: &mut Pools,
     labels: &Labels,
     code: &mut Vec<u8>,
-    cursor: &mut Cursor<'_>,
+    cursor: &mut LineCursor<'_>,
     operand: Operand,
-) -> Result<(), Stop>
+) -> Result<(), LineStop>
     ensures { OnOk result (Appends (operand_width operand) code.old.items code.new.items) }
 {
     match operand {
@@ -93,9 +92,9 @@ fn read_operands(
     pools: &mut Pools,
     labels: &Labels,
     code: &mut Vec<u8>,
-    cursor: &mut Cursor<'_>,
+    cursor: &mut LineCursor<'_>,
     operands: &[Operand],
-) -> Result<(), Stop>
+) -> Result<(), LineStop>
     ensures { OnOk result
         (Appends (sum_by operand_width operands.now) code.old.items code.new.items) }
 {
@@ -110,8 +109,8 @@ pub(crate) fn read_instruction(
     pools: &mut Pools,
     labels: &Labels,
     code: &mut Vec<u8>,
-    cursor: &mut Cursor<'_>,
-) -> Result<(), Stop>
+    cursor: &mut LineCursor<'_>,
+) -> Result<(), LineStop>
     ensures { OnOk result
         ((count : ℕ) × (0 < count) × Appends count code.old.items code.new.items) }
 {
@@ -124,14 +123,14 @@ pub(crate) fn read_instruction(
     }
     let Some((tag, form)) = form_named(word) else {
         cursor.left = start;
-        return Err(Stop::Fault(LineProblem::Mnemonic));
+        return Err(LineStop::Fault(LineProblem::Mnemonic));
     };
     code.push(tag)?;
     read_operands(pools, labels, code, cursor, form.operands)
 }
 
 /// Goes past a label, if the line is one.
-pub(crate) fn eat_label(cursor: &mut Cursor<'_>) -> bool
+pub(crate) fn eat_label(cursor: &mut LineCursor<'_>) -> bool
     ensures eaten { OnTrue result (ReadsLabel cursor.old.left.now cursor.new.left.now) }
     ensures left { OnFalse result (cursor.new.left.now ≡ cursor.old.left.now) }
 {

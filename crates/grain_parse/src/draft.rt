@@ -9,11 +9,8 @@ ghost use Rattle.grain_parse.specs.declared.draft.TheConstants.{MAX_POSITIONS};
 use crate::chains::read_chain;
 use crate::chunks::Chunks;
 use crate::code::{eat_label, read_instruction};
-use crate::cursor::{Cursor, no_number};
-use crate::error::{LineProblem, Stop, Unfinished};
+use crate::error::Unfinished;
 use crate::labels::Labels;
-use crate::literals::{read_text, read_text_or_word};
-use crate::operators::read_token;
 use crate::parsed::Parsed;
 use crate::pools::Pools;
 use crate::sections::{Pass, Section, read_directive, section_named};
@@ -21,6 +18,9 @@ use crate::switches::read_switch_line;
 use crate::values::{MAX_DEPTH, read_value};
 use grain::{Parts, Positions, Program};
 use grain_base::{Caps, Position};
+use grain_lexer::{
+    LineCursor, LineProblem, LineStop, no_number, read_text, read_text_or_word, read_token,
+};
 use grain_pools::{Strings, StringsError};
 use grain_print::UNLISTED;
 use std::alloc::{AllocError, Global};
@@ -80,7 +80,7 @@ pub(crate) struct Draft {
 }
 
 /// Reads the number of a program.
-fn read_id(cursor: &mut Cursor<'_>) -> Result<u128, Stop> {
+fn read_id(cursor: &mut LineCursor<'_>) -> Result<u128, LineStop> {
     cursor.blanks();
     let start = cursor.left;
     let digits = cursor.word()?;
@@ -88,13 +88,13 @@ fn read_id(cursor: &mut Cursor<'_>) -> Result<u128, Stop> {
         Ok(id) => Ok(id),
         Err(error) => {
             cursor.left = start;
-            Err(Stop::Fault(no_number(error, LineProblem::NotDecimal)))
+            Err(LineStop::Fault(no_number(error, LineProblem::NotDecimal)))
         }
     }
 }
 
 /// Reads capabilities: names with bars between them, in quotes.
-fn read_caps(cursor: &mut Cursor<'_>) -> Result<Caps, Stop> {
+fn read_caps(cursor: &mut LineCursor<'_>) -> Result<Caps, LineStop> {
     cursor.blanks();
     let start = cursor.left;
     let names = read_text(cursor)?;
@@ -102,7 +102,7 @@ fn read_caps(cursor: &mut Cursor<'_>) -> Result<Caps, Stop> {
         Ok(caps) => Ok(caps),
         Err(_) => {
             cursor.left = start;
-            Err(Stop::Fault(LineProblem::NotCapability))
+            Err(LineStop::Fault(LineProblem::NotCapability))
         }
     }
 }
@@ -123,14 +123,14 @@ impl Given {
 
 impl Head {
     /// Reads what follows a directive that begins no section.
-    fn read(&mut self, cursor: &mut Cursor<'_>, directive: &str) -> Result<(), Stop>
+    fn read(&mut self, cursor: &mut LineCursor<'_>, directive: &str) -> Result<(), LineStop>
         ensures most { self.new.most_positions ≡ self.old.most_positions }
         ensures positions { OnOk result
             (IfSome self.old.positions (λ count. count ≤ self.old.most_positions)
             → IfSome self.new.positions (λ count. count ≤ self.old.most_positions)) }
     {
         if self.given.note(directive) {
-            return Err(Stop::Fault(LineProblem::DirectiveTwice));
+            return Err(LineStop::Fault(LineProblem::DirectiveTwice));
         }
         match directive {
             ".caps" => self.caps = Some(read_caps(cursor)?),
@@ -141,7 +141,7 @@ impl Head {
                 let count = cursor.number_up_to(self.most_positions)?;
                 self.positions = Some(count as usize);
             }
-            _ => return Err(Stop::Fault(LineProblem::Directive)),
+            _ => return Err(LineStop::Fault(LineProblem::Directive)),
         }
         Ok(())
     }
@@ -172,12 +172,12 @@ impl Draft {
     }
 
     /// Notes the position of an address.
-    fn place(&mut self, at: usize, position: Position) -> Result<(), Stop>
+    fn place(&mut self, at: usize, position: Position) -> Result<(), LineStop>
         ensures inside { OnOk result (ForSome self.old.head.positions (λ len. at < len)) }
         ensures code { self.new.code ≡ self.old.code }
     {
         match self.head.positions {
-            Some(len) if at >= len => Err(Stop::Fault(LineProblem::NoPosition)),
+            Some(len) if at >= len => Err(LineStop::Fault(LineProblem::NoPosition)),
             _ => {
                 self.places.push((at, position))?;
                 Ok(())
@@ -186,7 +186,11 @@ impl Draft {
     }
 
     /// Reads a line of code.
-    fn read_code_line(&mut self, labels: &Labels, cursor: &mut Cursor<'_>) -> Result<(), Stop>
+    fn read_code_line(
+        &mut self,
+        labels: &Labels,
+        cursor: &mut LineCursor<'_>,
+    ) -> Result<(), LineStop>
         ensures { OnOk result (GrowsTo self.old.code.items self.new.code.items) }
     {
         if eat_label(cursor) {
@@ -207,7 +211,7 @@ impl Draft {
     }
 
     /// Reads a position by its address.
-    fn read_place(&mut self, cursor: &mut Cursor<'_>) -> Result<(), Stop>
+    fn read_place(&mut self, cursor: &mut LineCursor<'_>) -> Result<(), LineStop>
         ensures { self.new.code ≡ self.old.code }
     {
         let start = cursor.left;
@@ -215,7 +219,7 @@ impl Draft {
         let position = cursor.position_or_none()?;
         let placed = match self.head.positions {
             Some(_) => self.place(at, position),
-            None => Err(Stop::Fault(LineProblem::NoPosition)),
+            None => Err(LineStop::Fault(LineProblem::NoPosition)),
         };
         if placed.is_err() {
             cursor.left = start;
@@ -224,7 +228,7 @@ impl Draft {
     }
 
     /// Reads an entry of a pool.
-    fn read_entry(&mut self, labels: &Labels, cursor: &mut Cursor<'_>) -> Result<(), Stop>
+    fn read_entry(&mut self, labels: &Labels, cursor: &mut LineCursor<'_>) -> Result<(), LineStop>
         ensures { OnOk result (GrowsTo self.old.code.items self.new.code.items) }
     {
         match self.section {
@@ -250,14 +254,14 @@ impl Draft {
     /// Reads what follows a directive that begins no section.
     fn read_head<'a>(
         &mut self,
-        cursor: &mut Cursor<'a>,
+        cursor: &mut LineCursor<'a>,
         start: &'a [u8],
         directive: &str,
-    ) -> Result<(), Stop>
+    ) -> Result<(), LineStop>
         ensures { self.new.code ≡ self.old.code }
     {
         let read = self.head.read(cursor, directive);
-        if let Err(Stop::Fault(LineProblem::Directive | LineProblem::DirectiveTwice)) = read {
+        if let Err(LineStop::Fault(LineProblem::Directive | LineProblem::DirectiveTwice)) = read {
             cursor.left = start;
         }
         read
@@ -267,10 +271,10 @@ impl Draft {
     fn follow<'a>(
         &mut self,
         pass: Pass,
-        cursor: &mut Cursor<'a>,
+        cursor: &mut LineCursor<'a>,
         start: &'a [u8],
         directive: &str,
-    ) -> Result<bool, Stop>
+    ) -> Result<bool, LineStop>
         ensures { self.new.code ≡ self.old.code }
     {
         if let Some(section) = section_named(directive) {
@@ -283,7 +287,7 @@ impl Draft {
         }
         if directive == ".positions" && !self.places.is_empty() {
             cursor.left = start;
-            return Err(Stop::Fault(LineProblem::LatePositions));
+            return Err(LineStop::Fault(LineProblem::LatePositions));
         }
         Ok(false)
     }
@@ -293,8 +297,8 @@ impl Draft {
         &mut self,
         labels: &Labels,
         pass: Pass,
-        cursor: &mut Cursor<'_>,
-    ) -> Result<bool, Stop>
+        cursor: &mut LineCursor<'_>,
+    ) -> Result<bool, LineStop>
         ensures { OnOk result (GrowsTo self.old.code.items self.new.code.items) }
     {
         cursor.blanks();
@@ -321,8 +325,8 @@ impl Draft {
         &mut self,
         labels: &Labels,
         pass: Pass,
-        cursor: &mut Cursor<'_>,
-    ) -> Result<(), Stop>
+        cursor: &mut LineCursor<'_>,
+    ) -> Result<(), LineStop>
         ensures { OnOk result (GrowsTo self.old.code.items self.new.code.items) }
     {
         if cursor.is_done() {

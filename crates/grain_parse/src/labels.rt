@@ -3,9 +3,9 @@ ghost use Rattle.std.specs.Prelude.{◌≡◌, ◌+◌, ◌<◌, IfErr, IfOk, le
 ghost use Rattle.grain_parse.specs.Addresses.{ReadsAddress};
 ghost use Rattle.grain_parse.specs.Widths.{operand_width};
 
-use crate::cursor::Cursor;
-use crate::error::{Flaw, LineProblem, Stop};
+use crate::error::Flaw;
 use crate::sections::{Section, read_directive, section_named};
+use grain_lexer::{LineCursor, LineProblem, LineStop};
 use grain_print::{Operand, TextForm, form_named};
 use std::alloc::{AllocError, Global};
 use std::collections::HashMap;
@@ -63,17 +63,21 @@ enum Item<'a> {
 }
 
 /// A label, which no address is taken for.
-fn label_of<'a>(cursor: &mut Cursor<'a>, start: &'a [u8], word: &'a str) -> Result<Item<'a>, Stop> {
+fn label_of<'a>(
+    cursor: &mut LineCursor<'a>,
+    start: &'a [u8],
+    word: &'a str,
+) -> Result<Item<'a>, LineStop> {
     match start {
         [b'0'..=b'9', ..] => {
             cursor.left = start;
-            Err(Stop::Fault(LineProblem::LabelNumber))
+            Err(LineStop::Fault(LineProblem::LabelNumber))
         }
         _ => Ok(Item::Label(word)),
     }
 }
 
-fn read_item<'a>(cursor: &mut Cursor<'a>) -> Result<Item<'a>, Stop> {
+fn read_item<'a>(cursor: &mut LineCursor<'a>) -> Result<Item<'a>, LineStop> {
     cursor.blanks();
     let start = cursor.left;
     let word = cursor.word()?;
@@ -87,14 +91,18 @@ fn read_item<'a>(cursor: &mut Cursor<'a>) -> Result<Item<'a>, Stop> {
         Some((_, form)) => Ok(Item::Bytes(width_of(form))),
         None => {
             cursor.left = start;
-            Err(Stop::Fault(LineProblem::Mnemonic))
+            Err(LineStop::Fault(LineProblem::Mnemonic))
         }
     }
 }
 
 impl Labels {
     /// Reads a line of code, and moves the address past it.
-    fn read_line(&mut self, cursor: &mut Cursor<'_>, address: &mut u32) -> Result<(), Stop> {
+    fn read_line(
+        &mut self,
+        cursor: &mut LineCursor<'_>,
+        address: &mut u32,
+    ) -> Result<(), LineStop> {
         let start = cursor.left;
         match read_item(cursor)? {
             Item::Bytes(width) => match address.checked_add(width) {
@@ -102,7 +110,7 @@ impl Labels {
                     *address = next;
                     Ok(())
                 }
-                None => Err(Stop::Fault(LineProblem::TooWide)),
+                None => Err(LineStop::Fault(LineProblem::TooWide)),
             },
             Item::Label(label) => {
                 let label = String::from_str(cursor.alloc, label)?;
@@ -110,7 +118,7 @@ impl Labels {
                     Ok(())
                 } else {
                     cursor.left = start;
-                    Err(Stop::Fault(LineProblem::LabelTwice))
+                    Err(LineStop::Fault(LineProblem::LabelTwice))
                 }
             }
         }
@@ -119,10 +127,10 @@ impl Labels {
     /// Reads a line, and says in which section the next one is.
     fn visit(
         &mut self,
-        cursor: &mut Cursor<'_>,
+        cursor: &mut LineCursor<'_>,
         section: Section,
         address: &mut u32,
-    ) -> Result<Section, Stop> {
+    ) -> Result<Section, LineStop> {
         if cursor.is_done() {
             return Ok(section);
         }
@@ -145,7 +153,7 @@ impl Labels {
         let mut section = Section::Code;
         let mut address = 0u32;
         for (line, text) in lines.iter().enumerate() {
-            let mut cursor = Cursor {
+            let mut cursor = LineCursor {
                 alloc,
                 left: text.as_bytes(),
             };
@@ -161,7 +169,7 @@ impl Labels {
     }
 
     /// Reads an address: a number, or a label.
-    pub fn read_address(&self, cursor: &mut Cursor<'_>) -> Result<u32, Stop>
+    pub fn read_address(&self, cursor: &mut LineCursor<'_>) -> Result<u32, LineStop>
         ensures { IfOk result (λ address.
             ReadsAddress self.now cursor.old.left.now address cursor.new.left.now) }
     {
@@ -175,7 +183,7 @@ impl Labels {
             Some(address) => Ok(*address),
             None => {
                 cursor.left = start;
-                Err(Stop::Fault(LineProblem::UnknownLabel))
+                Err(LineStop::Fault(LineProblem::UnknownLabel))
             }
         }
     }

@@ -4,12 +4,9 @@
 mod chains;
 mod chunks;
 mod code;
-mod cursor;
 mod draft;
 mod error;
 mod labels;
-mod literals;
-mod operators;
 mod parsed;
 mod parsing;
 mod pools;
@@ -18,7 +15,8 @@ mod switches;
 mod values;
 
 pub use draft::MAX_POSITIONS;
-pub use error::{LineProblem, ParseError, SyntaxError};
+pub use error::{ParseError, SyntaxError};
+pub use grain_lexer::LineProblem;
 pub use parsed::Parsed;
 pub use parsing::{parse, parse_accepted, read};
 pub use values::MAX_DEPTH;

@@ -49,7 +49,7 @@ impl Parsed {
     }
 }
 
-/// The program, in which the chunks at these places declare their depths.
+/// The program, in which the chunks with these indices declare their depths.
 fn with_depths(
     alloc: Global,
     mut program: Program,

@@ -5,13 +5,13 @@ ghost use Rattle.grain.specs.Verified.{IsVerified};
 ghost use Rattle.grain_parse.specs.Placed.{IsPlacedError};
 ghost use Rattle.grain_pools.specs.Names.{texts};
 
-use crate::cursor::Cursor;
 use crate::draft::{Draft, most_positions};
-use crate::error::{Flaw, ParseError, Stop, SyntaxError, Unfinished};
+use crate::error::{Flaw, ParseError, SyntaxError, Unfinished};
 use crate::labels::Labels;
 use crate::parsed::Parsed;
 use crate::sections::Pass;
 use grain::{Program, Verified};
+use grain_lexer::{LineCursor, LineStop};
 use grain_rules::VerifyError;
 use std::alloc::{AllocError, Global};
 
@@ -35,7 +35,7 @@ fn refusal_of(alloc: Global, lines: &[&str], flaw: Flaw) -> ParseError
     requires { flaw.line < length lines.now }
     ensures { IsPlacedError (texts lines.now) result }
 {
-    let Stop::Fault(problem) = flaw.stop else {
+    let LineStop::Fault(problem) = flaw.stop else {
         return ParseError::OutOfMemory;
     };
     let line = line_at(lines, flaw.line);
@@ -62,7 +62,7 @@ fn read_pass(
 {
     draft.begin();
     for (line, text) in lines.iter().enumerate() {
-        let mut cursor = Cursor {
+        let mut cursor = LineCursor {
             alloc,
             left: text.as_bytes(),
         };

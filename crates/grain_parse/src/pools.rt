@@ -6,12 +6,9 @@ ghost use Rattle.grain_base.specs.View.{content};
 ghost use Rattle.grain_parse.specs.Drafted.{HasNoEntry};
 ghost use Rattle.grain_parse.specs.Entries.{AreSameAssignOps, Enters, HasEntryAt, IsMadeOf, ReadsAssignOpEntry, ReadsAssignOpIndex, ReadsConstantIndex, ReadsNameIndex, ReadsOperatorIndex};
 
-use crate::cursor::Cursor;
-use crate::error::{LineProblem, Stop};
-use crate::literals::read_text_or_word;
-use crate::operators::{is_same, read_token};
 use crate::values::{MAX_DEPTH, read_value};
 use grain_base::{Dynamic, Token};
+use grain_lexer::{LineCursor, LineProblem, LineStop, is_same, read_text_or_word, read_token};
 use grain_pools::{AssignOp, Chain, Switch};
 use grain_print::token_spelled;
 use std::alloc::Global;
@@ -29,22 +26,22 @@ pub(crate) struct Pools {
 }
 
 /// The index of the last entry of a pool of this length.
-fn last(count: usize) -> Result<u32, Stop>
+fn last(count: usize) -> Result<u32, LineStop>
     ensures { IfOk result (λ last. last + 1 ≡ count) }
 {
     match count.checked_sub(1) {
         Some(last) => index_of(last),
-        None => Err(Stop::Fault(LineProblem::TooWide)),
+        None => Err(LineStop::Fault(LineProblem::TooWide)),
     }
 }
 
 /// The index at a place.
-fn index_of(place: usize) -> Result<u32, Stop>
+fn index_of(place: usize) -> Result<u32, LineStop>
     ensures { IfOk result (λ index. index ≡ place) }
 {
     match u32::try_from(place) {
         Ok(index) => Ok(index),
-        Err(_) => Err(Stop::Fault(LineProblem::TooWide)),
+        Err(_) => Err(LineStop::Fault(LineProblem::TooWide)),
     }
 }
 
@@ -121,7 +118,7 @@ impl Pools {
     }
 
     /// The index of a name, which gets an entry if it has none.
-    fn name_index(&mut self, name: String) -> Result<u32, Stop>
+    fn name_index(&mut self, name: String) -> Result<u32, LineStop>
         ensures entered { IfOk result (Enters (λ other. string_bytes other ≡ string_bytes name)
             self.old.names.items self.new.names.items) }
         ensures assign_ops { self.new.assign_ops ≡ self.old.assign_ops }
@@ -136,7 +133,7 @@ impl Pools {
     }
 
     /// The index of a constant, which gets an entry unless it is plain and there is the same.
-    pub fn constant_index(&mut self, value: Dynamic) -> Result<u32, Stop>
+    pub fn constant_index(&mut self, value: Dynamic) -> Result<u32, LineStop>
         ensures { IfOk result (Enters (λ other. content other ≡ content value)
             self.old.consts.items self.new.consts.items) }
     {
@@ -150,7 +147,7 @@ impl Pools {
     }
 
     /// The index of an operator, which gets an entry if it has none.
-    fn token_index(&mut self, token: Token) -> Result<u32, Stop>
+    fn token_index(&mut self, token: Token) -> Result<u32, LineStop>
         ensures { IfOk result (Enters (λ other. token_parts other ≡ token_parts token)
             self.old.tokens.items self.new.tokens.items) }
     {
@@ -164,7 +161,7 @@ impl Pools {
     }
 
     /// The index of an op-assignment, which gets an entry if it has none.
-    fn assign_op_index(&mut self, assign_op: AssignOp) -> Result<u32, Stop>
+    fn assign_op_index(&mut self, assign_op: AssignOp) -> Result<u32, LineStop>
         ensures entered { IfOk result (Enters (λ other. AreSameAssignOps other assign_op)
             self.old.assign_ops.items self.new.assign_ops.items) }
         ensures names { self.new.names ≡ self.old.names }
@@ -179,7 +176,7 @@ impl Pools {
     }
 
     /// Reads a name: its index, or the name itself.
-    pub fn read_name(&mut self, cursor: &mut Cursor<'_>) -> Result<u32, Stop>
+    pub fn read_name(&mut self, cursor: &mut LineCursor<'_>) -> Result<u32, LineStop>
         ensures { IfOk result (λ index. ReadsNameIndex cursor.old.left.now
             self.old.names.items self.new.names.items index cursor.new.left.now) }
     {
@@ -191,7 +188,7 @@ impl Pools {
     }
 
     /// Reads a constant: its index, or the value itself.
-    pub fn read_constant(&mut self, cursor: &mut Cursor<'_>) -> Result<u32, Stop>
+    pub fn read_constant(&mut self, cursor: &mut LineCursor<'_>) -> Result<u32, LineStop>
         ensures { IfOk result (λ index. ReadsConstantIndex cursor.old.left.now
             self.old.consts.items self.new.consts.items index cursor.new.left.now) }
     {
@@ -203,7 +200,7 @@ impl Pools {
     }
 
     /// Reads an operator: its index, or the operator itself.
-    pub fn read_operator(&mut self, cursor: &mut Cursor<'_>) -> Result<u32, Stop>
+    pub fn read_operator(&mut self, cursor: &mut LineCursor<'_>) -> Result<u32, LineStop>
         ensures { IfOk result (λ index. ReadsOperatorIndex cursor.old.left.now
             self.old.tokens.items self.new.tokens.items index cursor.new.left.now) }
     {
@@ -215,7 +212,7 @@ impl Pools {
     }
 
     /// Reads an op-assignment: its index, or its operator, as `+=`, which applies the plain one under their own names.
-    pub fn read_assign_op(&mut self, cursor: &mut Cursor<'_>) -> Result<u32, Stop>
+    pub fn read_assign_op(&mut self, cursor: &mut LineCursor<'_>) -> Result<u32, LineStop>
         ensures { IfOk result (λ index. ReadsAssignOpIndex cursor.old.left.now self.new.names.items
             self.old.assign_ops.items self.new.assign_ops.items index cursor.new.left.now) }
     {
@@ -228,13 +225,13 @@ impl Pools {
             Some(assign_op) => self.assign_op_index(assign_op),
             None => {
                 cursor.left = start;
-                Err(Stop::Fault(LineProblem::NotAssignOp))
+                Err(LineStop::Fault(LineProblem::NotAssignOp))
             }
         }
     }
 
     /// The op-assignment of this spelling.
-    fn plain_assign_op(&mut self, spelling: &str) -> Result<Option<AssignOp>, Stop>
+    fn plain_assign_op(&mut self, spelling: &str) -> Result<Option<AssignOp>, LineStop>
         ensures made { IfOk result (λ found. IfSome found
             (IsMadeOf spelling.now self.new.names.items)) }
         ensures assign_ops { self.new.assign_ops ≡ self.old.assign_ops }
@@ -256,7 +253,10 @@ impl Pools {
     }
 
     /// Reads an entry of the op-assignments: the operator and its name, the operator that it applies and the name of that.
-    pub fn read_assign_op_entry(&mut self, cursor: &mut Cursor<'_>) -> Result<AssignOp, Stop>
+    pub fn read_assign_op_entry(
+        &mut self,
+        cursor: &mut LineCursor<'_>,
+    ) -> Result<AssignOp, LineStop>
         ensures { IfOk result (λ entry. ReadsAssignOpEntry cursor.old.left.now
             self.old.names.items self.new.names.items entry cursor.new.left.now) }
     {

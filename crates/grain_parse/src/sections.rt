@@ -1,11 +1,10 @@
 //! Sections and directives.
 ghost use Rattle.std.specs.Prelude.{◌≡◌, ◌≢◌, ◌↔◌, IfOk, IsTrue, MatchOption};
-ghost use Rattle.grain_parse.specs.Blanks.{ReadsText, unblanked};
+ghost use Rattle.grain_lexer.specs.Blanks.{ReadsText, unblanked};
 ghost use Rattle.grain_parse.specs.Directives.{directive_of, pass_of};
 ghost use Rattle.grain_parse.specs.declared.sections.Section.{Section};
 
-use crate::cursor::Cursor;
-use crate::error::Stop;
+use grain_lexer::{LineCursor, LineStop};
 
 /// What the lines that follow are.
 #[derive(Clone, Copy, PartialEq, Eq)]
@@ -80,7 +79,7 @@ pub(crate) fn section_named(directive: &str) -> Option<Section>
 }
 
 /// Reads a directive, if the line begins with one: a dot and a letter.
-pub(crate) fn read_directive<'a>(cursor: &mut Cursor<'a>) -> Result<Option<&'a str>, Stop>
+pub(crate) fn read_directive<'a>(cursor: &mut LineCursor<'a>) -> Result<Option<&'a str>, LineStop>
     ensures { IfOk result (λ found. MatchOption found
         (cursor.new.left.now ≡ unblanked cursor.old.left.now)
         (λ directive. ReadsText cursor.old.left.now directive.now cursor.new.left.now)) }

@@ -1,17 +1,16 @@
 //! Switches.
 
-use crate::cursor::Cursor;
-use crate::error::{LineProblem, Stop};
 use crate::labels::Labels;
 use crate::pools::Pools;
 use crate::values::{MAX_DEPTH, read_value};
 use grain_base::Dynamic;
+use grain_lexer::{LineCursor, LineProblem, LineStop};
 use grain_pools::{Switch, SwitchRange};
 use std::alloc::{AllocError, Global};
 use std::collections::HashMap;
 
 /// Reads the arrow before a target, and the target.
-fn read_target(labels: &Labels, cursor: &mut Cursor<'_>) -> Result<u32, Stop> {
+fn read_target(labels: &Labels, cursor: &mut LineCursor<'_>) -> Result<u32, LineStop> {
     cursor.expect(b'-')?;
     cursor.expect(b'>')?;
     labels.read_address(cursor)
@@ -46,7 +45,11 @@ fn add_case(
 }
 
 /// Reads a case: its key, the index of its constant, and its target.
-fn read_case(pools: &mut Pools, labels: &Labels, cursor: &mut Cursor<'_>) -> Result<(), Stop> {
+fn read_case(
+    pools: &mut Pools,
+    labels: &Labels,
+    cursor: &mut LineCursor<'_>,
+) -> Result<(), LineStop> {
     cursor.blanks();
     let start = cursor.left;
     let key = read_value(cursor, MAX_DEPTH)?;
@@ -61,19 +64,19 @@ fn read_case(pools: &mut Pools, labels: &Labels, cursor: &mut Cursor<'_>) -> Res
                 Ok(())
             } else {
                 cursor.left = start;
-                Err(Stop::Fault(LineProblem::SameCase))
+                Err(LineStop::Fault(LineProblem::SameCase))
             }
         }
-        None => Err(Stop::Fault(LineProblem::NoSwitch)),
+        None => Err(LineStop::Fault(LineProblem::NoSwitch)),
     }
 }
 
 /// The index of the constant that begins at a place of the line. The cursor stays.
 fn read_again<'a>(
     pools: &mut Pools,
-    cursor: &mut Cursor<'a>,
+    cursor: &mut LineCursor<'a>,
     start: &'a [u8],
-) -> Result<u32, Stop> {
+) -> Result<u32, LineStop> {
     let behind = cursor.left;
     cursor.left = start;
     let value = read_value(cursor, MAX_DEPTH)?;
@@ -82,7 +85,11 @@ fn read_again<'a>(
 }
 
 /// Reads a range: its bounds and its target.
-fn read_range(pools: &mut Pools, labels: &Labels, cursor: &mut Cursor<'_>) -> Result<(), Stop> {
+fn read_range(
+    pools: &mut Pools,
+    labels: &Labels,
+    cursor: &mut LineCursor<'_>,
+) -> Result<(), LineStop> {
     cursor.blanks();
     let start = cursor.left;
     let (from, to, inclusive) = match read_value(cursor, 1)? {
@@ -90,7 +97,7 @@ fn read_range(pools: &mut Pools, labels: &Labels, cursor: &mut Cursor<'_>) -> Re
         Dynamic::RangeInclusive(from, to) => (from, to, true),
         _ => {
             cursor.left = start;
-            return Err(Stop::Fault(LineProblem::NotValue));
+            return Err(LineStop::Fault(LineProblem::NotValue));
         }
     };
     let target = read_target(labels, cursor)?;
@@ -104,7 +111,7 @@ fn read_range(pools: &mut Pools, labels: &Labels, cursor: &mut Cursor<'_>) -> Re
             })?;
             Ok(())
         }
-        None => Err(Stop::Fault(LineProblem::NoSwitch)),
+        None => Err(LineStop::Fault(LineProblem::NoSwitch)),
     }
 }
 
@@ -112,8 +119,8 @@ fn read_range(pools: &mut Pools, labels: &Labels, cursor: &mut Cursor<'_>) -> Re
 pub(crate) fn read_switch_line(
     pools: &mut Pools,
     labels: &Labels,
-    cursor: &mut Cursor<'_>,
-) -> Result<(), Stop> {
+    cursor: &mut LineCursor<'_>,
+) -> Result<(), LineStop> {
     let start = cursor.left;
     match cursor.word()? {
         "switch" => {
@@ -130,7 +137,7 @@ pub(crate) fn read_switch_line(
         "range" => read_range(pools, labels, cursor),
         _ => {
             cursor.left = start;
-            Err(Stop::Fault(LineProblem::Word))
+            Err(LineStop::Fault(LineProblem::Word))
         }
     }
 }

@@ -1,9 +1,7 @@
 //! Values.
 
-use crate::cursor::Cursor;
-use crate::error::{LineProblem, Stop};
-use crate::literals::{read_char, read_text, read_text_or_word};
 use grain_base::{Dynamic, FnPtr, HostValue};
+use grain_lexer::{LineCursor, LineProblem, LineStop, read_char, read_text, read_text_or_word};
 use std::alloc::{AllocError, Global};
 use std::collections::BTreeMap;
 
@@ -11,7 +9,7 @@ use std::collections::BTreeMap;
 pub const MAX_DEPTH: u32 = 64;
 
 /// Reads an integer, or a range of integers.
-fn read_integers(cursor: &mut Cursor<'_>) -> Result<Dynamic, Stop> {
+fn read_integers(cursor: &mut LineCursor<'_>) -> Result<Dynamic, LineStop> {
     let from = cursor.integer()?;
     match cursor.left {
         [b'.', b'.', b'=', rest @ ..] => {
@@ -29,7 +27,7 @@ fn read_integers(cursor: &mut Cursor<'_>) -> Result<Dynamic, Stop> {
 }
 
 /// Reads a blob, after its word.
-fn read_blob(cursor: &mut Cursor<'_>) -> Result<Dynamic, Stop> {
+fn read_blob(cursor: &mut LineCursor<'_>) -> Result<Dynamic, LineStop> {
     cursor.expect(b'(')?;
     let start = cursor.left;
     let digits = read_text(cursor)?;
@@ -38,16 +36,16 @@ fn read_blob(cursor: &mut Cursor<'_>) -> Result<Dynamic, Stop> {
             cursor.expect(b')')?;
             Ok(Dynamic::Blob(bytes))
         }
-        Err(hex::FromHexError::OutOfMemory) => Err(Stop::OutOfMemory),
+        Err(hex::FromHexError::OutOfMemory) => Err(LineStop::OutOfMemory),
         Err(_) => {
             cursor.left = start;
-            Err(Stop::Fault(LineProblem::NotHex))
+            Err(LineStop::Fault(LineProblem::NotHex))
         }
     }
 }
 
 /// Reads a value of the host, after its word.
-fn read_host(cursor: &mut Cursor<'_>) -> Result<Dynamic, Stop> {
+fn read_host(cursor: &mut LineCursor<'_>) -> Result<Dynamic, LineStop> {
     cursor.expect(b'(')?;
     let type_name = read_text(cursor)?;
     cursor.expect(b',')?;
@@ -57,7 +55,7 @@ fn read_host(cursor: &mut Cursor<'_>) -> Result<Dynamic, Stop> {
 }
 
 /// Reads the unit value.
-fn read_unit(cursor: &mut Cursor<'_>) -> Result<Dynamic, Stop> {
+fn read_unit(cursor: &mut LineCursor<'_>) -> Result<Dynamic, LineStop> {
     cursor.expect(b'(')?;
     cursor.expect(b')')?;
     Ok(Dynamic::Unit)
@@ -80,10 +78,10 @@ fn shared(alloc: Global, value: Dynamic) -> Result<Dynamic, AllocError> {
 
 /// Reads a value that is nested so deep at most.
 #[cycle(value)]
-pub(crate) fn read_value(cursor: &mut Cursor<'_>, depth: u32) -> Result<Dynamic, Stop> {
+pub(crate) fn read_value(cursor: &mut LineCursor<'_>, depth: u32) -> Result<Dynamic, LineStop> {
     cursor.blanks();
     let Some(depth) = depth.checked_sub(1) else {
-        return Err(Stop::Fault(LineProblem::TooDeep));
+        return Err(LineStop::Fault(LineProblem::TooDeep));
     };
     match cursor.left {
         [b'(', ..] => read_unit(cursor),
@@ -104,7 +102,7 @@ pub(crate) fn read_value(cursor: &mut Cursor<'_>, depth: u32) -> Result<Dynamic,
 
 /// Reads a value that begins with a word.
 #[cycle(value)]
-fn read_named(cursor: &mut Cursor<'_>, depth: u32) -> Result<Dynamic, Stop> {
+fn read_named(cursor: &mut LineCursor<'_>, depth: u32) -> Result<Dynamic, LineStop> {
     let start = cursor.left;
     match cursor.word()? {
         "true" => Ok(Dynamic::Bool(true)),
@@ -115,14 +113,14 @@ fn read_named(cursor: &mut Cursor<'_>, depth: u32) -> Result<Dynamic, Stop> {
         "shared" => read_shared(cursor, depth),
         _ => {
             cursor.left = start;
-            Err(Stop::Fault(LineProblem::NotValue))
+            Err(LineStop::Fault(LineProblem::NotValue))
         }
     }
 }
 
 /// Reads a shared value, after its word.
 #[cycle(value)]
-fn read_shared(cursor: &mut Cursor<'_>, depth: u32) -> Result<Dynamic, Stop> {
+fn read_shared(cursor: &mut LineCursor<'_>, depth: u32) -> Result<Dynamic, LineStop> {
     cursor.expect(b'(')?;
     let value = read_value(cursor, depth)?;
     cursor.expect(b')')?;
@@ -131,7 +129,7 @@ fn read_shared(cursor: &mut Cursor<'_>, depth: u32) -> Result<Dynamic, Stop> {
 
 /// Reads a function pointer, after its word: its name, and the values that are bound.
 #[cycle(value)]
-fn read_pointer(cursor: &mut Cursor<'_>, depth: u32) -> Result<FnPtr, Stop> {
+fn read_pointer(cursor: &mut LineCursor<'_>, depth: u32) -> Result<FnPtr, LineStop> {
     cursor.expect(b'(')?;
     let name = read_text(cursor)?;
     let curry = if cursor.eat(b',') {
@@ -145,7 +143,7 @@ fn read_pointer(cursor: &mut Cursor<'_>, depth: u32) -> Result<FnPtr, Stop> {
 
 /// Reads values with commas between them, up to the byte that ends them.
 #[cycle(value)]
-fn read_items(cursor: &mut Cursor<'_>, end: u8, depth: u32) -> Result<Vec<Dynamic>, Stop> {
+fn read_items(cursor: &mut LineCursor<'_>, end: u8, depth: u32) -> Result<Vec<Dynamic>, LineStop> {
     let mut items = Vec::new(cursor.alloc);
     if cursor.eat(end) {
         return Ok(items);
@@ -158,12 +156,15 @@ fn read_items(cursor: &mut Cursor<'_>, end: u8, depth: u32) -> Result<Vec<Dynami
         }
         cursor.expect(b',')?;
     }
-    Err(Stop::Fault(LineProblem::NoEnd))
+    Err(LineStop::Fault(LineProblem::NoEnd))
 }
 
 /// Reads keys with their values up to the brace that ends them.
 #[cycle(value)]
-fn read_entries(cursor: &mut Cursor<'_>, depth: u32) -> Result<BTreeMap<String, Dynamic>, Stop> {
+fn read_entries(
+    cursor: &mut LineCursor<'_>,
+    depth: u32,
+) -> Result<BTreeMap<String, Dynamic>, LineStop> {
     let mut entries = BTreeMap::new(cursor.alloc);
     if cursor.eat(b'}') {
         return Ok(entries);
@@ -175,12 +176,12 @@ fn read_entries(cursor: &mut Cursor<'_>, depth: u32) -> Result<BTreeMap<String, 
         let value = read_value(cursor, depth)?;
         if !put(&mut entries, key, value)? {
             cursor.left = start;
-            return Err(Stop::Fault(LineProblem::SameKey));
+            return Err(LineStop::Fault(LineProblem::SameKey));
         }
         if cursor.eat(b'}') {
             return Ok(entries);
         }
         cursor.expect(b',')?;
     }
-    Err(Stop::Fault(LineProblem::NoEnd))
+    Err(LineStop::Fault(LineProblem::NoEnd))
 }

@@ -1,5 +1,5 @@
 use Rattle.std.proofs.Common.{sym, inr}
-use Rattle.grain_parse.proofs.ReadNumbers.{text_again}
+use Rattle.grain_lexer.proofs.ReadNumbers.{text_again}
 use Rattle.grain_parse.proofs.labels.Labels.read_address.Goals as goal
 
 pub returns-in-Some : goal.returns-in-Some
