@@ -6,13 +6,13 @@ use Rattle.std.proofs.lemmas.List.{append-nil}
 use Rattle.std.proofs.Common.{◌≡◌, ℕ, ◌+◌, ◌<◌, suc, get_or, drop, drop-cons, add-one, map, ℤ, pos, true, false, List, [], ◌∷◌, ◌++◌, length, refl, sym, ap, ◌∙◌, append_assoc, length-append, arith}
 use Rattle.grain_flat_file.specs.Values.{counted_row, has_bytes, placed_rows, value_row}
 use Rattle.grain_flat_file.specs.declared.records.CValue.{CValue}
-use Rattle.rhai_flat.specs.Rows.{IsAppended, bytes_of}
+use Rattle.rhai_flat.specs.Rows.{IsAppended, bytes_of_rows}
 use Rattle.rhai_flat.specs.declared.writing.FlatValues.{FlatValues}
 use Rattle.rhai_flat.proofs.PlacedRows.{at_false, at_true, bytes_append, placed_behind}
 
 pub appended_after : (a b c : FlatValues) (rs ss : List CValue) (ts us : List ℕ) → IsAppended a b rs ts → IsAppended b c ss us → IsAppended a c (rs ++ ss) (ts ++ us)
 appended_after a b c rs ss ts us p q =
-    let behind : length b.texts.items ≡ length a.texts.items + bytes_of rs =
+    let behind : length b.texts.items ≡ length a.texts.items + bytes_of_rows rs =
     ap (λ (bs : List ℕ). length bs) p.bytes_are ∙ length-append a.texts.items ts ∙ ap (λ (n : ℕ). length a.texts.items + n) (sym p.bytes_fit) in
     let e = bytes_append rs ss in
     let f = length-append ts us in
@@ -28,7 +28,7 @@ pub appended_as : (a b : FlatValues) (rs ss : List CValue) (ts us : List ℕ) �
 appended_as a b rs ss ts us e f p = record {
   rows_are = p.rows_are ∙ ap (λ (ys : List CValue). a.rows.items ++ placed_rows (length a.texts.items) ys) e;
   bytes_are = p.bytes_are ∙ ap (λ (ys : List ℕ). a.texts.items ++ ys) f;
-  bytes_fit = ap bytes_of (sym e) ∙ p.bytes_fit ∙ ap (λ (ys : List ℕ). length ys) f;
+  bytes_fit = ap bytes_of_rows (sym e) ∙ p.bytes_fit ∙ ap (λ (ys : List ℕ). length ys) f;
 }
 
 pub row_appended : (a b : FlatValues) (tag n : ℕ) (z : ℤ) → has_bytes tag ≡ false → b.rows.items ≡ a.rows.items ++ value_row tag n z ∷ [] → b.texts ≡ a.texts → IsAppended a b (value_row tag n z ∷ []) []

@@ -1,4 +1,9 @@
 mod Appending
+mod FormsBack
+mod LastEntry
 mod PlacedRows
+mod ReadInside
+mod ReadRows
 mod RowsInside
+mod SameForms
 mod WrittenInside

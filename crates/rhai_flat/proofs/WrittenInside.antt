@@ -11,24 +11,24 @@ use Rattle.rhai_values.specs.declared.value.Value.{Value}
 use Rattle.rhai_values.specs.declared.value.List.{List as ValueList, fold_out-List}
 use Rattle.rhai_values.specs.declared.value.Object.{Object, fold_out-Object}
 use Rattle.rhai_values.specs.declared.value.Pointer.{Pointer, fold_out-Pointer}
-use Rattle.rhai_flat.specs.Forms.{flat_entries, flat_form, flat_forms, form_step, list_form, list_step, object_form, object_step, pointer_form, pointer_step}
+use Rattle.rhai_flat.specs.Forms.{flat_entries, flat_form, flat_forms, flat_step, flat_list, flat_list_step, flat_object, flat_object_step, flat_pointer, flat_pointer_step}
 use Rattle.rhai_flat.specs.Rows.{IsAppended}
 use Rattle.rhai_flat.specs.declared.writing.FlatValues.{FlatValues}
 use Rattle.rhai_flat.proofs.Appending.{appended_after, appended_as}
 use Rattle.rhai_flat.proofs.RowsInside.{array_rows, entry_texts_listed, map_rows, pointer_rows, texts_listed}
 
-pub list_form_is : (l : ValueList) → list_form l ≡ array (forms_of (flat_forms l.items.items))
-list_form_is l = fold_out-List Form Form Form Form form_step list_step object_step pointer_step l
+pub list_form_is : (l : ValueList) → flat_list l ≡ array (forms_of (flat_forms l.items.items))
+list_form_is l = fold_out-List Form Form Form Form flat_step flat_list_step flat_object_step flat_pointer_step l
 
-pub object_form_is : (o : Object) → object_form o ≡ object_map (form_entries_of (flat_entries o.entries.entries))
-object_form_is o = fold_out-Object Form Form Form Form form_step list_step object_step pointer_step o
+pub object_form_is : (o : Object) → flat_object o ≡ object_map (form_entries_of (flat_entries o.entries.entries))
+object_form_is o = fold_out-Object Form Form Form Form flat_step flat_list_step flat_object_step flat_pointer_step o
 
-pub pointer_form_is : (p : Pointer) → pointer_form p ≡ fn_ptr (string_bytes p.name) (forms_of (flat_forms p.bound.items))
-pointer_form_is p = fold_out-Pointer Form Form Form Form form_step list_step object_step pointer_step p
+pub pointer_form_is : (p : Pointer) → flat_pointer p ≡ fn_ptr (string_bytes p.name) (forms_of (flat_forms p.bound.items))
+pointer_form_is p = fold_out-Pointer Form Form Form Form flat_step flat_list_step flat_object_step flat_pointer_step p
 
 pub array_appended : (a b c : FlatValues) (l : ValueList) (us vs : List Value) → us ≡ l.items.items → vs ≡ l.items.items
     → IsAppended a b (counted_row tags.ARRAY (length us) ∷ []) [] → IsAppended b c (flat_map value_rows (flat_forms vs)) (flat_map value_texts (flat_forms vs))
-    → IsAppended a c (value_rows (list_form l)) (value_texts (list_form l))
+    → IsAppended a c (value_rows (flat_list l)) (value_texts (flat_list l))
 array_appended a b c l us vs e f p q =
     let xs = flat_forms l.items.items in
     let n : length us ≡ length xs = ap (λ (ws : List Value). length ws) e ∙ sym (length-map l.items.items flat_form) in
@@ -40,7 +40,7 @@ array_appended a b c l us vs e f p q =
 
 pub map_appended : (a b c : FlatValues) (o : Object) (n : ℕ) (es : List (String Global × Value)) → n ≡ length (flat_entries o.entries.entries) → es ≡ o.entries.entries
     → IsAppended a b (counted_row tags.MAP n ∷ []) [] → IsAppended b c (flat_map entry_rows (flat_entries es)) (flat_map entry_texts (flat_entries es))
-    → IsAppended a c (value_rows (object_form o)) (value_texts (object_form o))
+    → IsAppended a c (value_rows (flat_object o)) (value_texts (flat_object o))
 map_appended a b c o n es e f p q =
     let xs = flat_entries o.entries.entries in
     rw (object_form_is o)
@@ -55,7 +55,7 @@ bytes_as a b tag bs cs e p =
 
 pub pointer_appended : (a b c d : FlatValues) (f : Pointer) (us vs : List Value) (name : List ℕ) → us ≡ f.bound.items → vs ≡ f.bound.items → name ≡ string_bytes f.name
     → IsAppended a b (counted_row tags.FN_PTR (length us) ∷ []) [] → IsAppended b c (counted_row tags.TEXT (length name) ∷ []) name → IsAppended c d (flat_map value_rows (flat_forms vs)) (flat_map value_texts (flat_forms vs))
-    → IsAppended a d (value_rows (pointer_form f)) (value_texts (pointer_form f))
+    → IsAppended a d (value_rows (flat_pointer f)) (value_texts (flat_pointer f))
 pointer_appended a b c d f us vs name e g h p q r =
     let xs = flat_forms f.bound.items in
     let text = string_bytes f.name in

@@ -14,39 +14,39 @@ range_form false r = range r.from r.to
 range_form true r = range_inclusive r.from r.to
 
 -- a shared variable has no flat form, as a value of the host has none
-abbrev pub form_step : Value-F Form Form Form Form → Form
-form_step Value-F.Unit = unit
-form_step (Value-F.Bool b) = boolean b
-form_step (Value-F.Int z) = integer z
-form_step (Value-F.Char n) = character n
-form_step (Value-F.Text t) = text (string_bytes t.value.string)
-form_step (Value-F.Range r) = range_form r.value.inclusive r.value
-form_step (Value-F.Array l) = l.value
-form_step (Value-F.Blob b) = blob b.value.items
-form_step (Value-F.Map m) = m.value
-form_step (Value-F.Pointer p) = p.value
-form_step (Value-F.Shared i) = host [] i
+abbrev pub flat_step : Value-F Form Form Form Form → Form
+flat_step Value-F.Unit = unit
+flat_step (Value-F.Bool b) = boolean b
+flat_step (Value-F.Int z) = integer z
+flat_step (Value-F.Char n) = character n
+flat_step (Value-F.Text t) = text (string_bytes t.value.string)
+flat_step (Value-F.Range r) = range_form r.value.inclusive r.value
+flat_step (Value-F.Array l) = l.value
+flat_step (Value-F.Blob b) = blob b.value.items
+flat_step (Value-F.Map m) = m.value
+flat_step (Value-F.Pointer p) = p.value
+flat_step (Value-F.Shared i) = host [] i
 
-abbrev pub list_step : List-F Form Form Form Form → Form
-list_step l = array (forms_of l.items.items)
+abbrev pub flat_list_step : List-F Form Form Form Form → Form
+flat_list_step l = array (forms_of l.items.items)
 
-abbrev pub object_step : Object-F Form Form Form Form → Form
-object_step o = object_map (form_entries_of (map (λ e. (string_bytes e.0, e.1)) o.entries.entries))
+abbrev pub flat_object_step : Object-F Form Form Form Form → Form
+flat_object_step o = object_map (form_entries_of (map (λ e. (string_bytes e.0, e.1)) o.entries.entries))
 
-abbrev pub pointer_step : Pointer-F Form Form Form Form → Form
-pointer_step p = fn_ptr (string_bytes p.name) (forms_of p.bound.items)
+abbrev pub flat_pointer_step : Pointer-F Form Form Form Form → Form
+flat_pointer_step p = fn_ptr (string_bytes p.name) (forms_of p.bound.items)
 
 abbrev pub flat_form : Value → Form
-flat_form = fold-Value Form Form Form Form form_step list_step object_step pointer_step
+flat_form = fold-Value Form Form Form Form flat_step flat_list_step flat_object_step flat_pointer_step
 
-abbrev pub list_form : ValueList → Form
-list_form = fold-List Form Form Form Form form_step list_step object_step pointer_step
+abbrev pub flat_list : ValueList → Form
+flat_list = fold-List Form Form Form Form flat_step flat_list_step flat_object_step flat_pointer_step
 
-abbrev pub object_form : Object → Form
-object_form = fold-Object Form Form Form Form form_step list_step object_step pointer_step
+abbrev pub flat_object : Object → Form
+flat_object = fold-Object Form Form Form Form flat_step flat_list_step flat_object_step flat_pointer_step
 
-abbrev pub pointer_form : Pointer → Form
-pointer_form = fold-Pointer Form Form Form Form form_step list_step object_step pointer_step
+abbrev pub flat_pointer : Pointer → Form
+flat_pointer = fold-Pointer Form Form Form Form flat_step flat_list_step flat_object_step flat_pointer_step
 
 abbrev pub flat_forms : List Value → List Form
 flat_forms vs = map flat_form vs

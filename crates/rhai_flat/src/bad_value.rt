@@ -1,9 +1,11 @@
 //! Why rows are no values.
 ghost use Rattle.std.specs.Prelude.{◌≡◌};
 
-use crate::reading::MAX_DEPTH;
 use std::alloc::{AllocError, AllocFailed};
 use thiserror::Error;
+
+/// The greatest limit on the depth of values that are read. Reading, writing and dropping one recurse as deep.
+pub const MAX_DEPTH: usize = 256;
 
 /// Why rows are no values within the limits.
 #[derive(Clone, Copy, Debug, PartialEq, Eq, Error)]

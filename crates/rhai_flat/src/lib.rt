@@ -10,11 +10,13 @@
 #![tactic(auto)]
 
 mod bad_value;
+mod laws;
 mod reader;
 mod reading;
 mod writing;
 
-pub use bad_value::BadValue;
+pub use bad_value::{BadValue, MAX_DEPTH};
 pub use grain_flat_file::CValue;
-pub use reading::{MAX_DEPTH, read_values};
+pub use laws::rows_tell_forms;
+pub use reading::read_values;
 pub use writing::FlatValues;

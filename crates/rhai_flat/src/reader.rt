@@ -1,5 +1,8 @@
 //! Rows and bytes that weren't read yet.
 ghost use Rattle.std.specs.Prelude.{◌≡◌, ◌+◌, ◌∷◌, ◌++◌, [], IfErr, IfOk, OnOk, length, pos};
+ghost use Rattle.grain_flat_file.specs.Values.{counted_row, value_row};
+ghost use Rattle.grain_flat_file.specs.declared.tags.TheConstants as tags;
+ghost use Rattle.rhai_flat.specs.Rows.{AreRead, IsRowTaken};
 ghost use Rattle.rhai_flat.specs.declared.bad_value.BadValue.{BadValue};
 
 use crate::bad_value::BadValue;
@@ -24,7 +27,7 @@ pub(crate) struct Reader<'a> {
 impl<'a> Reader<'a> {
     /// Reads a row.
     pub(crate) fn row(&mut self) -> Result<CValue, BadValue>
-        ensures row { IfOk result (λ row. self.old.rows.now ≡ row ∷ self.new.rows.now) }
+        ensures row { IfOk result (λ row. IsRowTaken self.old row self.new) }
         ensures none { IfErr result (λ e. (e ≡ BadValue.TooFewRows) × (self.old.rows.now ≡ [])) }
         ensures bytes { (self.new.texts ≡ self.old.texts) × (self.new.from ≡ self.old.from) }
     {
@@ -77,7 +80,10 @@ impl<'a> Reader<'a> {
     }
 
     /// Reads a row of a text, and that text.
-    pub(crate) fn name(&mut self) -> Result<&'a str, BadValue> {
+    pub(crate) fn name(&mut self) -> Result<&'a str, BadValue>
+        ensures { IfOk result (λ read. AreRead self.old self.new
+            (counted_row tags.TEXT (length read.now) ∷ []) read.now) }
+    {
         let row = self.row()?;
         if row.tag != TEXT {
             return Err(BadValue::NotName);
@@ -86,7 +92,10 @@ impl<'a> Reader<'a> {
     }
 
     /// Reads a row of an integer.
-    pub(crate) fn integer(&mut self) -> Result<i64, BadValue> {
+    pub(crate) fn integer(&mut self) -> Result<i64, BadValue>
+        ensures { IfOk result (λ z. AreRead self.old self.new
+            (value_row tags.INTEGER 0 z ∷ []) []) }
+    {
         let row = self.row()?;
         if row.tag != INTEGER {
             return Err(BadValue::NotInteger);

@@ -1,22 +1,30 @@
 //! Rows as values.
-ghost use Rattle.std.specs.Prelude.{◌≡◌, ◌+◌, ◌<◌, IfOk, length};
+ghost use Rattle.std.specs.Prelude.{◌≡◌, ◌+◌, ◌<◌, IfOk, OnOk, cond, length, string_bytes};
+ghost use Rattle.std.specs.BTreeMap.{keys};
+ghost use Rattle.std.specs.Cmp.Lexicographic.{slice_cmp};
+ghost use Rattle.std.specs.List.{All};
+ghost use Rattle.std.specs.Ordering.{nat_cmp};
+ghost use Rattle.std.specs.declared.cmp.Ordering.{Ordering};
+ghost use Rattle.grain_flat_file.specs.declared.tags.TheConstants as tags;
+ghost use Rattle.rhai_flat.specs.Forms.{flat_entries, flat_form, flat_forms};
+ghost use Rattle.rhai_flat.specs.Rows.{AreEntriesRead, AreFormsRead, AreOfRun, AreRowsOf, IsFormRead, IsFormReadBehind};
 ghost use Rattle.rhai_flat.specs.declared.bad_value.BadValue.{BadValue};
 
-use crate::bad_value::BadValue;
+use crate::bad_value::{BadValue, MAX_DEPTH};
 use crate::reader::{Reader, character, has_fields};
 use grain_flat_file::CValue;
 use grain_flat_file::tags::{
     ARRAY, BLOB, CHARACTER, FALSE, FN_PTR, INTEGER, MAP, RANGE, RANGE_INCLUSIVE, TEXT, TRUE, UNIT,
 };
-use rhai_values::{List, Object, Pointer, SizeLimits, Value};
+use rhai_values::{Interval, List, Object, Pointer, SizeLimits, Text, Value};
 use std::alloc::Global;
 use std::cmp::Ordering;
 use std::rc::Rc;
 
-/// The greatest limit on the depth of values that are read. Reading, writing and dropping one recurse as deep.
-pub const MAX_DEPTH: usize = 256;
-
 /// The values of rows, of which there are `count`. `texts` has the bytes of their texts and blobs.
+///
+/// The rows and bytes are those that [`FlatValues`](crate::FlatValues) has of these values, and no others have the same
+/// ([`rows_tell_forms`](crate::rows_tell_forms)). So values that are written and read back keep their flat form.
 ///
 /// The rows may come from a stranger. It takes time and memory linear in the rows and texts, n log n for a map of n entries.
 ///
@@ -34,6 +42,9 @@ pub fn read_values(
     limits: SizeLimits,
 ) -> Result<Vec<Value>, BadValue>
     ensures count { IfOk result (λ values. length values.items ≡ count) }
+    ensures rows { IfOk result (λ values.
+        AreRowsOf rows.now texts.now (flat_forms values.items)) }
+    ensures tags { OnOk result (AreOfRun rows.now) }
     ensures depth { MAX_DEPTH < limits.depth → result ≡ Err BadValue.DepthLimit }
 {
     if limits.depth > MAX_DEPTH {
@@ -61,7 +72,9 @@ fn read_limited(
     count: usize,
     limits: SizeLimits,
 ) -> Result<Vec<Value>, BadValue>
-    ensures { IfOk result (λ values. length values.items ≡ count) }
+    ensures count { IfOk result (λ values. length values.items ≡ count) }
+    ensures read { IfOk result (λ values.
+        AreFormsRead reader.old reader.new (flat_forms values.items)) }
 {
     let mut values = Vec::new(reader.alloc);
     'values: for _ in 0..count {
@@ -76,7 +89,9 @@ fn read_limited(
 
 /// Reads a value, in which values are nested at most this deep.
 #[cycle(read_value)]
-fn read_value(reader: &mut Reader<'_>, depth: usize) -> Result<Value, BadValue> {
+fn read_value(reader: &mut Reader<'_>, depth: usize) -> Result<Value, BadValue>
+    ensures { IfOk result (λ value. IsFormRead reader.old reader.new (flat_form value)) }
+{
     let row = reader.row()?;
     match row.tag {
         ARRAY => read_array(reader, row, depth),
@@ -87,7 +102,10 @@ fn read_value(reader: &mut Reader<'_>, depth: usize) -> Result<Value, BadValue> 
 }
 
 /// Reads what follows the row of a value that holds no others.
-fn read_single(reader: &mut Reader<'_>, row: CValue) -> Result<Value, BadValue> {
+fn read_single(reader: &mut Reader<'_>, row: CValue) -> Result<Value, BadValue>
+    ensures { IfOk result (λ value.
+        IsFormReadBehind row reader.old reader.new (flat_form value)) }
+{
     match row.tag {
         UNIT => {
             has_fields(row, 0, 0)?;
@@ -108,7 +126,7 @@ fn read_single(reader: &mut Reader<'_>, row: CValue) -> Result<Value, BadValue> 
         CHARACTER => Ok(Value::Char(character(row)?)),
         TEXT => {
             let text = String::from_str(reader.alloc, reader.text(row)?)?;
-            Ok(Value::text(reader.alloc, text)?)
+            Ok(Value::Text(Rc::new(reader.alloc, Text::of(text))?))
         }
         BLOB => {
             let bytes = Vec::from_slice(reader.alloc, reader.bytes(row)?)?;
@@ -121,11 +139,20 @@ fn read_single(reader: &mut Reader<'_>, row: CValue) -> Result<Value, BadValue> 
 }
 
 /// Reads the bounds of a range.
-fn read_range(reader: &mut Reader<'_>, row: CValue, inclusive: bool) -> Result<Value, BadValue> {
+fn read_range(reader: &mut Reader<'_>, row: CValue, inclusive: bool) -> Result<Value, BadValue>
+    requires { row.tag ≡ cond inclusive tags.RANGE_INCLUSIVE tags.RANGE }
+    ensures { IfOk result (λ value.
+        IsFormReadBehind row reader.old reader.new (flat_form value)) }
+{
     has_fields(row, 0, 0)?;
     let from = reader.integer()?;
     let to = reader.integer()?;
-    Ok(Value::range(reader.alloc, from, to, inclusive)?)
+    let range = Interval {
+        from,
+        to,
+        inclusive,
+    };
+    Ok(Value::Range(Rc::new(reader.alloc, range)?))
 }
 
 /// How deep values are nested at most in one in which they are nested so deep.
@@ -140,28 +167,49 @@ fn inner(depth: usize) -> Result<usize, BadValue>
 
 /// Reads the items of an array.
 #[cycle(read_value)]
-fn read_array(reader: &mut Reader<'_>, row: CValue, depth: usize) -> Result<Value, BadValue> {
+fn read_array(reader: &mut Reader<'_>, row: CValue, depth: usize) -> Result<Value, BadValue>
+    requires { row.tag ≡ tags.ARRAY }
+    ensures { IfOk result (λ value.
+        IsFormReadBehind row reader.old reader.new (flat_form value)) }
+{
     has_fields(row, row.count, 0)?;
     let items = read_all(reader, row.count, inner(depth)?)?;
-    Ok(Value::array(reader.alloc, items)?)
+    Ok(Value::Array(Rc::new(reader.alloc, List::of(items))?))
 }
 
 /// Reads the name of a function, and the values that are bound.
 #[cycle(read_value)]
-fn read_pointer(reader: &mut Reader<'_>, row: CValue, depth: usize) -> Result<Value, BadValue> {
+fn read_pointer(reader: &mut Reader<'_>, row: CValue, depth: usize) -> Result<Value, BadValue>
+    requires { row.tag ≡ tags.FN_PTR }
+    ensures { IfOk result (λ value.
+        IsFormReadBehind row reader.old reader.new (flat_form value)) }
+{
     has_fields(row, row.count, 0)?;
     let name = String::from_str(reader.alloc, reader.name()?)?;
-    let bound = if row.count == 0 {
-        Vec::new(reader.alloc)
-    } else {
-        read_all(reader, row.count, inner(depth)?)?
-    };
+    let bound = read_bound(reader, row.count, depth)?;
     Ok(Value::Pointer(Rc::new(reader.alloc, Pointer::new(name, bound))?))
+}
+
+/// Reads this number of values that are bound. A function without any may lie at the deepest level.
+#[cycle(read_value)]
+fn read_bound(reader: &mut Reader<'_>, count: u32, depth: usize) -> Result<Vec<Value>, BadValue>
+    ensures count { IfOk result (λ values. length values.items ≡ count) }
+    ensures read { IfOk result (λ values.
+        AreFormsRead reader.old reader.new (flat_forms values.items)) }
+{
+    if count == 0 {
+        return Ok(Vec::new(reader.alloc));
+    }
+    read_all(reader, count, inner(depth)?)
 }
 
 /// Reads this number of values.
 #[cycle(read_value)]
-fn read_all(reader: &mut Reader<'_>, count: u32, depth: usize) -> Result<Vec<Value>, BadValue> {
+fn read_all(reader: &mut Reader<'_>, count: u32, depth: usize) -> Result<Vec<Value>, BadValue>
+    ensures count { IfOk result (λ values. length values.items ≡ count) }
+    ensures read { IfOk result (λ values.
+        AreFormsRead reader.old reader.new (flat_forms values.items)) }
+{
     let mut values = Vec::new(reader.alloc);
     'values: for _ in 0..count {
         let value = read_value(reader, depth)?;
@@ -172,7 +220,11 @@ fn read_all(reader: &mut Reader<'_>, count: u32, depth: usize) -> Result<Vec<Val
 
 /// Reads the entries of a map.
 #[cycle(read_value)]
-fn read_map(reader: &mut Reader<'_>, row: CValue, depth: usize) -> Result<Value, BadValue> {
+fn read_map(reader: &mut Reader<'_>, row: CValue, depth: usize) -> Result<Value, BadValue>
+    requires { row.tag ≡ tags.MAP }
+    ensures { IfOk result (λ value.
+        IsFormReadBehind row reader.old reader.new (flat_form value)) }
+{
     has_fields(row, row.count, 0)?;
     let object = read_entries(reader, row.count, inner(depth)?)?;
     Ok(Value::Map(Rc::new(reader.alloc, object)?))
@@ -180,7 +232,11 @@ fn read_map(reader: &mut Reader<'_>, row: CValue, depth: usize) -> Result<Value,
 
 /// Reads this number of entries.
 #[cycle(read_value)]
-fn read_entries(reader: &mut Reader<'_>, count: u32, depth: usize) -> Result<Object, BadValue> {
+fn read_entries(reader: &mut Reader<'_>, count: u32, depth: usize) -> Result<Object, BadValue>
+    ensures count { IfOk result (λ object. length object.entries.entries ≡ count) }
+    ensures read { IfOk result (λ object.
+        AreEntriesRead reader.old reader.new (flat_entries object.entries.entries)) }
+{
     let mut object = Object::new(reader.alloc);
     'entries: for _ in 0..count {
         let key = reader.name()?;
@@ -193,7 +249,11 @@ fn read_entries(reader: &mut Reader<'_>, count: u32, depth: usize) -> Result<Obj
 }
 
 /// Whether a key is greater than those of an object map.
-fn comes_last(object: &Object, key: &str) -> Result<(), BadValue> {
+fn comes_last(object: &Object, key: &str) -> Result<(), BadValue>
+    ensures { OnOk result (All
+        (λ other. slice_cmp nat_cmp (string_bytes other) key.now ≡ Ordering.Less)
+        (keys object.now.entries)) }
+{
     let Some((last, _)) = object.entries().last_key_value() else {
         return Ok(());
     };

@@ -2,7 +2,7 @@
 ghost use Rattle.std.specs.Prelude.{◌≡◌, ◌∷◌, [], ◌++◌, false, true, OnOk, OnErr, length, pos};
 ghost use Rattle.std.specs.List.{flat_map};
 ghost use Rattle.grain_flat_file.specs.Values.{counted_row, entry_rows, entry_texts, has_bytes, value_row, value_rows, value_texts};
-ghost use Rattle.rhai_flat.specs.Forms.{flat_entries, flat_form, flat_forms, list_form, object_form, pointer_form, range_form};
+ghost use Rattle.rhai_flat.specs.Forms.{flat_entries, flat_form, flat_forms, flat_list, flat_object, flat_pointer, range_form};
 ghost use Rattle.rhai_flat.specs.Rows.{IsAppended};
 
 use grain_flat_file::CValue;
@@ -160,7 +160,7 @@ impl FlatValues {
     #[cycle(add_value)]
     fn add_array(&mut self, list: &List) -> Result<(), Cause>
         ensures { OnOk result (IsAppended self.old self.new
-            (value_rows (list_form list.now)) (value_texts (list_form list.now))) }
+            (value_rows (flat_list list.now)) (value_texts (flat_list list.now))) }
     {
         self.push_plain(ARRAY, list.items().len(), 0)?;
         self.add_all(list.items())?;
@@ -171,7 +171,7 @@ impl FlatValues {
     #[cycle(add_value)]
     fn add_pointer(&mut self, pointer: &Pointer) -> Result<(), Cause>
         ensures { OnOk result (IsAppended self.old self.new
-            (value_rows (pointer_form pointer.now)) (value_texts (pointer_form pointer.now))) }
+            (value_rows (flat_pointer pointer.now)) (value_texts (flat_pointer pointer.now))) }
     {
         self.push_plain(FN_PTR, pointer.bound().len(), 0)?;
         self.push_bytes(TEXT, pointer.name().as_bytes())?;
@@ -195,7 +195,7 @@ impl FlatValues {
     #[cycle(add_value)]
     fn add_map(&mut self, object: &Object) -> Result<(), Cause>
         ensures { OnOk result (IsAppended self.old self.new
-            (value_rows (object_form object.now)) (value_texts (object_form object.now))) }
+            (value_rows (flat_object object.now)) (value_texts (flat_object object.now))) }
     {
         self.push_plain(MAP, object.entries().len(), 0)?;
         self.add_entries(object.entries())?;

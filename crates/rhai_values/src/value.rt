@@ -1,5 +1,7 @@
 //! Values, and what they hold: arrays, object maps and function pointers, which hold values again.
-ghost use Rattle.std.specs.Prelude.{◌≡◌, string_bytes};
+ghost use Rattle.std.specs.Prelude.{◌≡◌, [], OnOk, string_bytes};
+ghost use Rattle.std.specs.BTreeMap.{insert_entry};
+ghost use Rattle.std.specs.String.{string_cmp};
 
 use crate::interval::Interval;
 use crate::measure::Measure;
@@ -285,7 +287,9 @@ pub struct Object {
 impl Object {
     /// An object map without values.
     #[must_use]
-    pub fn new(alloc: Global) -> Object {
+    pub fn new(alloc: Global) -> Object
+        ensures { result.entries.entries ≡ [] }
+    {
         Object {
             entries: BTreeMap::new(alloc),
             size: 1,
@@ -328,7 +332,9 @@ impl Object {
         self.entries.get(name)
     }
 
-    fn grow(&mut self, measure: Measure) {
+    fn grow(&mut self, measure: Measure)
+        ensures { self.new.entries ≡ self.old.entries }
+    {
         self.size = self.size.saturating_add(measure.size);
         self.depth = self.depth.max(measure.depth.saturating_add(1));
     }
@@ -341,7 +347,10 @@ impl Object {
         &mut self,
         name: String,
         value: Value,
-    ) -> Result<Option<Value>, AllocFailed<(String, Value)>> {
+    ) -> Result<Option<Value>, AllocFailed<(String, Value)>>
+        ensures { OnOk result (self.new.entries.entries
+            ≡ insert_entry string_cmp self.old.entries.entries name value) }
+    {
         let measure = value.measure();
         let len = name.len();
         let old = self.entries.insert(name, value)?;
