@@ -1,2 +1,3 @@
 -- lemmas
+pub mod Functions
 pub mod Reporting

@@ -9,8 +9,8 @@ use Rattle.rhai_values.specs.declared.value.Value.{Value}
 use Rattle.rhai_values.specs.declared.walk.Walk.{Walk}
 use Rattle.rhai_runtime.specs.declared.fault.Fault.{Fault}
 use Rattle.rhai_engine.specs.Ends.{CanEnd, EndsRun, event_of}
-use Rattle.rhai_engine.specs.Runs.{Continues, IsLast, KeepsStage, MayBegin, chunks_of, outer_chunks, runs_of, session, status_of}
-use Rattle.rhai_engine.specs.Session.{EndsLast, Reports, Session, begins, outside_of}
+use Rattle.rhai_engine.specs.Runs.{Continues, IsLast, KeepsStage, MayBegin, stage_chunks, outer_chunks, run_chunks, session, stage_status}
+use Rattle.rhai_engine.specs.Session.{EndsLast, Reports, Session, with_run, outside_of}
 use Rattle.rhai_engine.specs.declared.event.Event.{Event}
 use Rattle.rhai_engine.specs.declared.event.Status.{Status}
 use Rattle.rhai_engine.specs.declared.event.Status.TheVariants as statuses
@@ -45,43 +45,43 @@ reports_ended s t chunk event was ends =
 
 -- A run of the chunk, the last one, has continued, and the runs are as the call left them. The event reports that.
 pub reports : (p : Program) (depth nested : ℕ) (chunk : Span) (last stage result : Stage) (outer after : List Calling) (event : Event)
-    → chunks_of last ≡ chunk ∷ []
+    → stage_chunks last ≡ chunk ∷ []
     → Continues p depth chunk stage event
-    → runs_of result after ≡ chunks_of stage ++ outer_chunks outer
+    → run_chunks result after ≡ stage_chunks stage ++ outer_chunks outer
     → KeepsStage stage result
     → Reports (session p depth nested last outer) (session p depth nested result after) event
 reports p depth nested chunk last stages.Empty result outer after event was continues runs keeps =
-    let before : runs_of last outer ≡ chunk ∷ outer_chunks outer = ap (λ (chunks : List Span). chunks ++ outer_chunks outer) was in
+    let before : run_chunks last outer ≡ chunk ∷ outer_chunks outer = ap (λ (chunks : List Span). chunks ++ outer_chunks outer) was in
     reports_ended (session p depth nested last outer) (session p depth nested result after) chunk event
     (before ∙ ap (λ (rest : List Span). chunk ∷ rest) (sym runs)) continues.follows
 reports p depth nested chunk last (stages.Ready c run) result outer after event was continues runs keeps =
-    let before : runs_of last outer ≡ chunk ∷ outer_chunks outer = ap (λ (chunks : List Span). chunks ++ outer_chunks outer) was in
-    let now : runs_of result after ≡ chunk ∷ outer_chunks outer = runs ∙ ap (λ (x : Span). x ∷ outer_chunks outer) continues.follows.0 in
+    let before : run_chunks last outer ≡ chunk ∷ outer_chunks outer = ap (λ (chunks : List Span). chunks ++ outer_chunks outer) was in
+    let now : run_chunks result after ≡ chunk ∷ outer_chunks outer = runs ∙ ap (λ (x : Span). x ∷ outer_chunks outer) continues.follows.0 in
     subst (Reports (session p depth nested last outer) (session p depth nested result after)) (sym continues.follows.1)
-    (now ∙ sym before, ap status_of keeps)
+    (now ∙ sym before, ap stage_status keeps)
 reports p depth nested chunk last (stages.Asking calling) result outer after event was continues runs keeps =
-    let before : runs_of last outer ≡ chunk ∷ outer_chunks outer = ap (λ (chunks : List Span). chunks ++ outer_chunks outer) was in
-    let now : runs_of result after ≡ chunk ∷ outer_chunks outer = runs ∙ ap (λ (x : Span). x ∷ outer_chunks outer) continues.follows.0 in
+    let before : run_chunks last outer ≡ chunk ∷ outer_chunks outer = ap (λ (chunks : List Span). chunks ++ outer_chunks outer) was in
+    let now : run_chunks result after ≡ chunk ∷ outer_chunks outer = runs ∙ ap (λ (x : Span). x ∷ outer_chunks outer) continues.follows.0 in
     subst (Reports (session p depth nested last outer) (session p depth nested result after)) (sym continues.follows.1)
-    (now ∙ sym before, ap status_of keeps)
+    (now ∙ sym before, ap stage_status keeps)
 
 -- without the last run, those outside it are left
-pub stopped_runs : (last : Stage) (outer : List Calling) → IsLast last outer → outside_of (runs_of last outer) ≡ outer_chunks outer
-stopped_runs stages.Empty outer alone = subst (λ (o : List Calling). outside_of (runs_of stages.Empty o) ≡ outer_chunks o) (sym alone) refl
+pub stopped_runs : (last : Stage) (outer : List Calling) → IsLast last outer → outside_of (run_chunks last outer) ≡ outer_chunks outer
+stopped_runs stages.Empty outer alone = subst (λ (o : List Calling). outside_of (run_chunks stages.Empty o) ≡ outer_chunks o) (sym alone) refl
 stopped_runs (stages.Ready chunk run) outer alone = refl
 stopped_runs (stages.Asking calling) outer alone = refl
 
-pub may_begin_unless : (last : Stage) → status_of last ≢ statuses.Ready → MayBegin last
+pub may_begin_unless : (last : Stage) → stage_status last ≢ statuses.Ready → MayBegin last
 may_begin_unless stages.Empty unready = tt
 may_begin_unless (stages.Ready chunk run) unready = unready refl
 may_begin_unless (stages.Asking calling) unready = tt
 
 -- a run of the chunk has begun on top of those that wait
 pub begun_session : (p : Program) (depth nested : ℕ) (last result : Stage) (outer after : List Calling) (chunk : Span)
-    → status_of result ≡ statuses.Ready
-    → runs_of result after ≡ chunk ∷ runs_of last outer
-    → session p depth nested result after ≡ begins (session p depth nested last outer) chunk
+    → stage_status result ≡ statuses.Ready
+    → run_chunks result after ≡ chunk ∷ run_chunks last outer
+    → session p depth nested result after ≡ with_run (session p depth nested last outer) chunk
 begun_session p depth nested last result outer after chunk ready runs =
-    let with_status : Status → Session = λ status. record { program = p; calls = depth; nested = nested; status = status; runs = runs_of result after } in
+    let with_status : Status → Session = λ status. record { program = p; calls = depth; nested = nested; status = status; runs = run_chunks result after } in
     let with_runs : List Span → Session = λ all. record { program = p; calls = depth; nested = nested; status = statuses.Ready; runs = all } in
     ap with_status ready ∙ ap with_runs runs

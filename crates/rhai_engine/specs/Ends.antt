@@ -1,5 +1,5 @@
 -- Events by which runs end.
-use Rattle.std.specs.Prelude.{◌≡◌, ⊤, ℕ, Option, Some, None}
+use Rattle.std.specs.Prelude.{◌≡◌, ◌≢◌, ⊤, ℕ, List, [], Option, Some, None}
 use Rattle.grain_code.specs.Span.{Span}
 use Rattle.grain.specs.Program.{Program}
 use Rattle.grain_machine.specs.Resuming.{HasEnded}
@@ -44,10 +44,18 @@ pub record EndsRun (p : Program) (depth : ℕ) (chunk : Span) (event : Event) : 
   pub ended : HasEnded Walk p depth chunk turns at outcome
   pub is : event ≡ event_of outcome
 
--- a run of a function doesn't begin for another reason than those that are under way
-abbrev pub IsLate : BeginError → Type 0
-IsLate refusals.NoFunction = ⊤
-IsLate refusals.TooManyRuns = ⊥
-IsLate refusals.Busy = ⊥
-IsLate refusals.TooLarge = ⊤
-IsLate refusals.OutOfMemory = ⊤
+-- a run of a function doesn't begin because of those that are under way
+abbrev pub IsEarly : BeginError → Type 0
+IsEarly refusals.NoFunction = ⊥
+IsEarly refusals.TooManyRuns = ⊤
+IsEarly refusals.Busy = ⊤
+IsEarly refusals.TooLarge = ⊥
+IsEarly refusals.OutOfMemory = ⊥
+
+-- a run of a function with these arguments doesn't begin for another reason than those that are under way
+abbrev pub IsLate : List Value → BeginError → Type 0
+IsLate arguments refusals.NoFunction = ⊤
+IsLate arguments refusals.TooManyRuns = ⊥
+IsLate arguments refusals.Busy = ⊥
+IsLate arguments refusals.TooLarge = arguments ≢ []
+IsLate arguments refusals.OutOfMemory = ⊤

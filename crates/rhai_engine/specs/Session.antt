@@ -1,7 +1,8 @@
 -- What contracts see of a state.
-use Rattle.std.specs.Prelude.{◌≡◌, ◌≢◌, ◌+◌, ◌<◌, ℕ, List, [], ◌∷◌, Some, length, slice_get}
+use Rattle.std.specs.Prelude.{◌≡◌, ◌≢◌, ◌≤◌, ◌<◌, ℕ, List, [], ◌∷◌, length}
 use Rattle.grain_code.specs.Span.{Span}
-use Rattle.grain.specs.Program.{Program, chunks_of}
+use Rattle.grain.specs.Program.{Program}
+use Rattle.rhai_runtime.specs.Named.{IsFunctionNamed}
 use Rattle.rhai_engine.specs.Ends.{EndsRun}
 use Rattle.rhai_engine.specs.declared.event.Event.{Event}
 use Rattle.rhai_engine.specs.declared.event.Event.TheVariants as events
@@ -22,22 +23,31 @@ abbrev pub idle : Program → ℕ → ℕ → Session
 idle p calls nested = record { program = p; calls = calls; nested = nested; status = statuses.Idle; runs = [] }
 
 -- the program and the limits stay
-pub record Keeps (s t : Session) : Type 0 where
+pub record KeepsProgram (s t : Session) : Type 0 where
   pub program : t.program ≡ s.program
   pub calls : t.calls ≡ s.calls
   pub nested : t.nested ≡ s.nested
 
 -- a run of the chunk begins, and is the last
-abbrev pub begins : Session → Span → Session
-begins s chunk = record s { status = statuses.Ready; runs = chunk ∷ s.runs }
+abbrev pub with_run : Session → Span → Session
+with_run s chunk = record s { status = statuses.Ready; runs = chunk ∷ s.runs }
 
--- a run of a function of the program begins, and is the last
-pub record BeginsFunction (s t : Session) : Type 0 where
-  pub function : ℕ
-  pub chunk : Span
-  pub within : function < length s.program.functions
-  pub there : slice_get (chunks_of s.program) (function + 1) ≡ Some chunk
-  pub begun : t ≡ begins s chunk
+-- All runs that are under way wait for calls. As many may wait while another run is under way.
+pub record TakesRun (s : Session) : Type 0 where
+  pub waits : s.status ≢ statuses.Ready
+  pub room : length s.runs ≤ s.nested
+
+-- All runs that are under way wait for calls. Only fewer may wait while another run is under way.
+pub record IsFull (s : Session) : Type 0 where
+  pub waits : s.status ≢ statuses.Ready
+  pub full : s.nested < length s.runs
+
+-- A run of a function of the program begins, and is the last. The function has this name and this many parameters, and is
+-- declared for no receiver.
+pub record BeginsFunction (s t : Session) (name : List ℕ) (params : ℕ) : Type 0 where
+  pub index : ℕ
+  pub is : IsFunctionNamed s.program name params index
+  pub begun : t ≡ with_run s is.function.chunk
 
 -- The last run has ended as the event says: a kept run of its chunk ended so. The run outside it is the last.
 pub record EndsLast (s t : Session) (event : Event) : Type 0 where

@@ -1,10 +1,11 @@
 //! The runs of a state, and how they continue.
-ghost use Rattle.std.specs.Prelude.{◌≡◌, ◌<◌, ◌≤◌, ◌↔◌, ◌++◌, ◌∷◌, ℕ, Err, OnOk, length, vec_capacity, vec_len};
+ghost use Rattle.std.specs.Prelude.{◌≡◌, ◌≢◌, ◌<◌, ◌≤◌, ◌↔◌, ◌++◌, ◌∷◌, ℕ, Err, IfErr, OnOk, length, vec_capacity, vec_len};
 ghost use Rattle.std.specs.List.{All};
 ghost use Rattle.grain.specs.Program.{Program};
-ghost use Rattle.rhai_engine.specs.Runs.{AreHeld, Continues, IsCalling, IsCallingSomehow, IsHeld};
-ghost use Rattle.rhai_engine.specs.Runs.{IsBegun, IsLast, IsReady, KeepsStage, MayBegin};
-ghost use Rattle.rhai_engine.specs.Runs.{chunks_of, outer_chunks, runs_of, status_of};
+ghost use Rattle.rhai_engine.specs.Ends.{IsEarly};
+ghost use Rattle.rhai_engine.specs.Runs.{AreRunsOf, Continues, IsAskingRun, IsAskingSomehow, IsStageOf};
+ghost use Rattle.rhai_engine.specs.Runs.{IsNewest, IsLast, IsPausedRun, KeepsStage, MayBegin};
+ghost use Rattle.rhai_engine.specs.Runs.{stage_chunks, outer_chunks, run_chunks, stage_status};
 
 use crate::event::{BeginError, Event, Slice, Status, event_of_end};
 use crate::outside::Outside;
@@ -45,7 +46,7 @@ pub(crate) fn resumed(
     chunk: Chunk,
     run: Parked<Value, Walk>,
 ) -> (Stage, Slice)
-    requires { IsReady prepared.now.program limits.depth chunk run }
+    requires { IsPausedRun prepared.now.program limits.depth chunk run }
     ensures continues { Continues prepared.now.program limits.depth chunk result.0 result.1.event }
     ensures turns { result.1.turns ≤ limits.fuel }
 {
@@ -78,8 +79,8 @@ pub(crate) fn failed(
     calling: Calling,
     fault: Fault,
 ) -> (Stage, Event)
-    requires { IsCallingSomehow prepared.now.program calling }
-    ensures { (depth : ℕ) → IsCalling prepared.now.program depth calling
+    requires { IsAskingSomehow prepared.now.program calling }
+    ensures { (depth : ℕ) → IsAskingRun prepared.now.program depth calling
         → Continues prepared.now.program depth calling.chunk result.0 result.1 }
 {
     let Calling { chunk, run } = calling;
@@ -96,8 +97,8 @@ pub(crate) fn answered(
     calling: Calling,
     value: Value,
 ) -> (Stage, Event)
-    requires { IsCallingSomehow prepared.now.program calling }
-    ensures { (depth : ℕ) → IsCalling prepared.now.program depth calling
+    requires { IsAskingSomehow prepared.now.program calling }
+    ensures { (depth : ℕ) → IsAskingRun prepared.now.program depth calling
         → Continues prepared.now.program depth calling.chunk result.0 result.1 }
 {
     match script.answered(value) {
@@ -116,11 +117,11 @@ pub(crate) fn continued(
     outer: &mut Vec<Calling>,
     stage: Stage,
 ) -> Stage
-    ensures runs { runs_of result outer.new.items ≡ chunks_of stage ++ outer_chunks outer.old.items }
+    ensures runs { run_chunks result outer.new.items ≡ stage_chunks stage ++ outer_chunks outer.old.items }
     ensures keeps { KeepsStage stage result }
-    ensures held { (program : Program) (depth : ℕ) → IsHeld program depth stage
-        → All (IsCalling program depth) outer.old.items
-        → AreHeld program depth result outer.new.items }
+    ensures held { (program : Program) (depth : ℕ) → IsStageOf program depth stage
+        → All (IsAskingRun program depth) outer.old.items
+        → AreRunsOf program depth result outer.new.items }
 {
     match stage {
         Stage::Empty => {
@@ -138,10 +139,12 @@ pub(crate) fn continued(
 pub(crate) fn may_begin(last: &Stage, outer: &Vec<Calling>, runs: usize) -> Result<(), BeginError>
     requires { IsLast last.now outer.now.items }
     ensures ok { OnOk result (MayBegin last.now) }
-    ensures busy { (result ≡ Err BeginError.Busy) ↔ (status_of last.now ≡ Status.Ready) }
-    ensures room { OnOk result (length (runs_of last.now outer.now.items) ≤ runs) }
-    ensures full { result ≡ Err BeginError.TooManyRuns
-        → runs < length (runs_of last.now outer.now.items) }
+    ensures busy { (result ≡ Err BeginError.Busy) ↔ (stage_status last.now ≡ Status.Ready) }
+    ensures room { OnOk result (length (run_chunks last.now outer.now.items) ≤ runs) }
+    ensures full { (result ≡ Err BeginError.TooManyRuns)
+        ↔ ((stage_status last.now ≢ Status.Ready)
+        × (runs < length (run_chunks last.now outer.now.items))) }
+    ensures early { IfErr result IsEarly }
 {
     match last {
         Stage::Empty => Ok(()),
@@ -164,12 +167,12 @@ pub(crate) fn begun(
     run: Parked<Value, Walk>,
 ) -> Stage
     requires reserved { vec_len outer.old < vec_capacity outer.old }
-    ensures stage { IsBegun result chunk run }
+    ensures stage { IsNewest result chunk run }
     ensures runs { MayBegin last
-        → runs_of result outer.new.items ≡ chunk ∷ runs_of last outer.old.items }
-    ensures waiting { (program : Program) (depth : ℕ) → IsHeld program depth last
-        → All (IsCalling program depth) outer.old.items
-        → All (IsCalling program depth) outer.new.items }
+        → run_chunks result outer.new.items ≡ chunk ∷ run_chunks last outer.old.items }
+    ensures waiting { (program : Program) (depth : ℕ) → IsStageOf program depth last
+        → All (IsAskingRun program depth) outer.old.items
+        → All (IsAskingRun program depth) outer.new.items }
 {
     match last {
         Stage::Asking(calling) => {

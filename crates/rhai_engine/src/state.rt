@@ -1,6 +1,7 @@
 //! States of scripts.
-ghost use Rattle.std.specs.Prelude.{◌≡◌, ◌≢◌, ◌≤◌, ◌<◌, ◌↔◌, ◌∷◌, Err, IfErr, IfOk, OnErr, OnOk, length};
+ghost use Rattle.std.specs.Prelude.{◌≡◌, ◌≢◌, ◌≤◌, ◌↔◌, [], Err, IfErr, IfOk, OnErr, OnOk, length, vec_len};
 ghost use Rattle.std.specs.Arc.{arc_value};
+ghost use Rattle.rhai_runtime.specs.Named.{LacksFunction, LacksName};
 ghost use Rattle.rhai_engine.specs.Ends.{IsLate};
 
 use crate::bounds::Bounds;
@@ -42,16 +43,16 @@ impl Model for State {
 
     ghost coded = { Prim.hlevel (codes, value.the_row.coded, switch.the_row.coded, status.the_row.coded) };
 
-    ghost use Rattle.rhai_engine.specs.Runs.{AreHeld, session};
+    ghost use Rattle.rhai_engine.specs.Runs.{AreRunsOf, session};
 
     ghost view = { λ s. session
         s.prepared.value.program s.bounds.calls s.bounds.runs s.last s.outer.items };
 
-    ghost invariant = { λ s. AreHeld s.prepared.value.program s.bounds.calls s.last s.outer.items };
+    ghost invariant = { λ s. AreRunsOf s.prepared.value.program s.bounds.calls s.last s.outer.items };
 }
 
 impl State {
-    ghost use Rattle.rhai_engine.specs.Session.{BeginsFunction, IsStopped, Keeps, Reports, begins, idle};
+    ghost use Rattle.rhai_engine.specs.Session.{BeginsFunction, IsFull, IsStopped, KeepsProgram, Reports, TakesRun, with_run, idle};
 
     /// A state without variables, whose host has no functions. It takes time and memory by the program's pools.
     ///
@@ -116,7 +117,7 @@ impl State {
     /// # Errors
     /// [`BeginError::Busy`] if a run is under way, or out of memory.
     pub fn begin(&mut self) -> Result<(), BeginError>
-        ensures ok { OnOk result (self.new ≡ begins self.old self.old.program.main) }
+        ensures ok { OnOk result (self.new ≡ with_run self.old self.old.program.main) }
         ensures err { OnErr result (self.new ≡ self.old) }
         ensures idle { OnOk result (self.old.status ≡ Status.Idle) }
         ensures busy { (result ≡ Err BeginError.Busy) ↔ (self.old.status ≢ Status.Idle) }
@@ -136,13 +137,17 @@ impl State {
     /// the last run waits for a call of the host, it waits on until this one has ended.
     ///
     /// # Errors
-    /// Why no run begins. No variable has changed.
+    /// Why no run begins: first a run that can be resumed, then as many that wait as may, then that there is no such function, then the
+    /// arguments or the memory. No variable has changed.
     pub fn begin_call(&mut self, name: &str, arguments: Vec<Value>) -> Result<(), BeginError>
-        ensures ok { OnOk result (BeginsFunction self.old self.new) }
+        ensures ok { OnOk result (BeginsFunction self.old self.new name.now (vec_len arguments)) }
         ensures err { OnErr result (self.new ≡ self.old) }
         ensures busy { (result ≡ Err BeginError.Busy) ↔ (self.old.status ≡ Status.Ready) }
         ensures room { OnOk result (length self.old.runs ≤ self.old.nested) }
-        ensures full { result ≡ Err BeginError.TooManyRuns → self.old.nested < length self.old.runs }
+        ensures full { (result ≡ Err BeginError.TooManyRuns) ↔ IsFull self.old }
+        ensures none { (result ≡ Err BeginError.NoFunction)
+            ↔ (TakesRun self.old × LacksFunction self.old.program name.now (vec_len arguments)) }
+        ensures large { result ≡ Err BeginError.TooLarge → arguments.items ≢ [] }
     {
         match may_begin(&self.last, &self.outer, self.bounds.runs) {
             Ok(()) => self.begin_function(name, arguments),
@@ -153,9 +158,11 @@ impl State {
     /// Begins a run of a function, if no run is under way that can be resumed.
     fn begin_function(&mut self, name: &str, arguments: Vec<Value>) -> Result<(), BeginError>
         requires { self.old.status ≢ Status.Ready }
-        ensures ok { OnOk result (BeginsFunction self.old self.new) }
+        ensures ok { OnOk result (BeginsFunction self.old self.new name.now (vec_len arguments)) }
         ensures err { OnErr result (self.new ≡ self.old) }
-        ensures late { IfErr result IsLate }
+        ensures none { (result ≡ Err BeginError.NoFunction)
+            ↔ LacksFunction self.old.program name.now (vec_len arguments) }
+        ensures late { IfErr result (IsLate arguments.items) }
     {
         let mut arguments = arguments;
         let program = self.prepared.verified().program();
@@ -178,7 +185,7 @@ impl State {
     /// Resumes the last run for as many turns as the fuel allows. If it waits for a call, nothing changes. To pause and to resume takes
     /// constant time at any depth of calls.
     pub fn resume(&mut self, fuel: u64) -> Slice
-        ensures keeps { Keeps self.old self.new }
+        ensures keeps { KeepsProgram self.old self.new }
         ensures reports { Reports self.old self.new result.event }
         ensures turns { result.turns ≤ fuel }
     {
@@ -231,7 +238,7 @@ impl State {
 
     /// Answers the call for which the last run waits: the call returns this value. If the limits don't allow it, the call fails.
     pub fn answer(&mut self, value: Value) -> Event
-        ensures keeps { Keeps self.old self.new }
+        ensures keeps { KeepsProgram self.old self.new }
         ensures reports { Reports self.old self.new result }
     {
         match mem::replace(&mut self.last, Stage::Empty) {
@@ -250,7 +257,7 @@ impl State {
     /// Has the call fail for which the last run waits. A handler of the script catches the cause, or the run fails. No script catches
     /// [`Cause::World`], a limit or a lack of memory.
     pub fn fail(&mut self, cause: Cause) -> Event
-        ensures keeps { Keeps self.old self.new }
+        ensures keeps { KeepsProgram self.old self.new }
         ensures reports { Reports self.old self.new result }
     {
         match mem::replace(&mut self.last, Stage::Empty) {
@@ -270,7 +277,7 @@ impl State {
     /// Ends the last run, if there is one, whether it waits or not. Values that it took out of variables go back there. If another
     /// run waits, that one is the last again.
     pub fn stop(&mut self)
-        ensures keeps { Keeps self.old self.new }
+        ensures keeps { KeepsProgram self.old self.new }
         ensures ended { IsStopped self.old self.new }
     {
         self.last = continued(&mut self.script, &mut self.outer, Stage::Empty);
@@ -297,9 +304,11 @@ impl State {
     /// # Errors
     /// Why it doesn't: the variable is as it was.
     pub fn set_variable(&mut self, name: &str, value: Value) -> Result<(), VariableError>
-        ensures { self.new ≡ self.old }
+        ensures same { self.new ≡ self.old }
+        ensures none { (result ≡ Err VariableError.NoName) ↔ LacksName self.old.program name.now }
     {
-        let Some(index) = self.script.name_index(name) else {
+        let program = self.prepared.verified().program();
+        let Some(index) = self.script.name_index(program, name) else {
             return Err(VariableError::NoName);
         };
         if !self.bounds.size.allow(value.measure()) {
@@ -335,7 +344,8 @@ fn entered(
     last: &Stage,
     arguments: &mut [Value],
 ) -> Result<(), BeginError>
-    ensures { IfErr result IsLate }
+    ensures found { result ≢ Err BeginError.NoFunction }
+    ensures late { IfErr result (IsLate arguments.old) }
 {
     if let Stage::Empty = last {
         script.began();

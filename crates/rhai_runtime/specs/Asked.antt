@@ -5,11 +5,11 @@ use Rattle.rhai_runtime.specs.declared.asked.Asked.{Asked}
 use Rattle.rhai_runtime.specs.declared.script.Script.{Script}
 
 -- the bytes of the name of its function
-abbrev pub name_of : Asked → List ℕ
-name_of asked = asked.name.bytes.items
+abbrev pub asked_name : Asked → List ℕ
+asked_name asked = asked.name.bytes.items
 
-abbrev pub arguments_of : Asked → List Value
-arguments_of asked = asked.arguments.items
+abbrev pub asked_arguments : Asked → List Value
+asked_arguments asked = asked.arguments.items
 
 -- the call for which the run of a script waits
 abbrev pub asked_of : {W : Type 0} → Script W → Option Asked

@@ -1,2 +1,3 @@
 -- definitions
 pub mod Asked
+pub mod Named

@@ -1,6 +1,6 @@
 //! A call that the embedding program does while the run waits.
 ghost use Rattle.std.specs.Prelude.{◌≡◌, IfSome, Some, slice_get};
-ghost use Rattle.rhai_runtime.specs.Asked.{arguments_of, name_of};
+ghost use Rattle.rhai_runtime.specs.Asked.{asked_arguments, asked_name};
 
 use rhai_values::{Lent, Value};
 
@@ -17,7 +17,7 @@ impl Asked {
     /// The name of the function.
     #[must_use]
     pub fn name(&self) -> &str
-        ensures { result.now ≡ name_of self.now }
+        ensures { result.now ≡ asked_name self.now }
     {
         self.name.as_str()
     }
@@ -25,18 +25,27 @@ impl Asked {
     /// Its arguments. For a method the first is the value on which it is called.
     #[must_use]
     pub fn arguments(&self) -> &[Value]
-        ensures { result.now ≡ arguments_of self.now }
+        ensures { result.now ≡ asked_arguments self.now }
     {
         self.arguments.as_slice()
     }
 
     /// The first argument, if it was taken out of a variable: the function may change it, and it goes back there.
     pub fn receiver(&mut self) -> Option<&mut Value>
-        ensures { IfSome result (λ receiver. slice_get (arguments_of self.old) 0 ≡ Some receiver.now) }
+        ensures { IfSome result (λ receiver. slice_get (asked_arguments self.old) 0 ≡ Some receiver.now) }
     {
         match &self.lent {
             Some(_) => self.arguments.first_mut(),
             None => None,
         }
     }
+}
+
+/// What a script keeps of a run that waits while a function is run from outside.
+#[derive(Drop)]
+pub(crate) struct OuterRun {
+    /// The call for which it waits.
+    pub(crate) asked: Option<Asked>,
+    /// How many functions had been entered and not left.
+    pub(crate) entered: usize,
 }

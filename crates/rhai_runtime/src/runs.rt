@@ -1,36 +1,48 @@
 //! Runs of a script, one after the other, or one while another waits for a call of the embedding program.
-ghost use Rattle.std.specs.Prelude.{IfSome, length, ◌<◌};
+ghost use Rattle.std.specs.Prelude.{◌≡◌, ◌≢◌, ◌↔◌, [], Err, IfSome, None, true};
+ghost use Rattle.grain.specs.Lookups.{is_text};
+ghost use Rattle.rhai_runtime.specs.Named.{IsFunctionNamed, LacksFunction, LacksName};
 
-use crate::asked::Asked;
+use crate::asked::OuterRun;
+use crate::named::{first_function, first_name, is_function_named, is_text};
 use crate::script::Script;
 use crate::world::World;
 use grain::Program;
 use grain_machine::Host;
 use rhai_values::{Cause, Value, Variables};
 
-/// What a script keeps of a run that waits while a function is run from outside.
-#[derive(Drop)]
-pub(crate) struct OuterRun {
-    /// The call for which it waits.
-    asked: Option<Asked>,
-    /// How many functions had been entered and not left.
-    entered: usize,
-}
-
 impl<W: World + Drop> Script<W> {
-    /// The function of the program that has this name and number of parameters, and is declared for no type of `this`.
+    /// The function of the program that has this name and number of parameters, and is declared for no type of `this`. If there are
+    /// several, it is one of them.
+    ///
+    /// It takes time by the logarithm of the number of names. Only where it finds none, it goes over all functions.
     #[must_use]
     pub fn function(&self, program: &Program, name: &str, params: usize) -> Option<usize>
-        ensures { IfSome result (λ index. index < length program.now.functions) }
+        ensures found { IfSome result (IsFunctionNamed program.now name.now params) }
+        ensures none { (result ≡ None) ↔ LacksFunction program.now name.now params }
     {
-        let name = self.table.index_of(name)?;
-        self.table.function(program, name, params)
+        if let Some(index) = self.table.function_named(program, name, params)
+            && is_function_named(program, index, name, params)
+        {
+            return Some(index);
+        }
+        first_function(program, name, params)
     }
 
-    /// The index of a name of the program.
+    /// An index of a name of the program.
+    ///
+    /// It takes time by the logarithm of the number of names. Only where it finds none, it goes over all names.
     #[must_use]
-    pub fn name_index(&self, name: &str) -> Option<u32> {
-        self.table.index_of(name)
+    pub fn name_index(&self, program: &Program, name: &str) -> Option<u32>
+        ensures found { IfSome result (λ index. is_text program.now.names name.now index ≡ true) }
+        ensures none { (result ≡ None) ↔ LacksName program.now name.now }
+    {
+        if let Some(index) = self.table.index_of(name)
+            && is_text(program, index, name)
+        {
+            return Some(index);
+        }
+        first_name(program, name)
     }
 
     /// The value of the variable of this name: one that code finds by its name, and in no slot.
@@ -60,12 +72,15 @@ impl<W: World + Drop> Script<W> {
     ///
     /// # Errors
     /// The limits don't allow an argument, or out of memory. Nothing has changed.
-    pub fn begin_function(&mut self, arguments: &mut [Value]) -> Result<(), Cause> {
+    pub fn begin_function(&mut self, arguments: &mut [Value]) -> Result<(), Cause>
+        ensures { result ≡ Err Cause.TooLarge → arguments.old ≢ [] }
+    {
         for argument in arguments.iter() {
             self.allowed(argument)?;
         }
-        self.outer.reserve(1)?;
-        self.variables.begin(arguments, self.at)?;
+        if self.outer.reserve(1).is_err() || self.variables.begin(arguments, self.at).is_err() {
+            return Err(Cause::OutOfMemory);
+        }
         let asked = self.asked.take();
         let entered = self.entered;
         self.outer.push_reserved(OuterRun { asked, entered });

@@ -3,10 +3,9 @@ ghost use Rattle.std.specs.Prelude.{◌≡◌, IfOk};
 ghost use Rattle.grain_machine.specs.Reply.{NamesFunction};
 ghost use Rattle.rhai_runtime.specs.Asked.{asked_of};
 
-use crate::asked::Asked;
+use crate::asked::{Asked, OuterRun};
 use crate::chains::{Context, assign_to};
 use crate::fault::Failure;
-use crate::runs::OuterRun;
 use crate::table::Table;
 use crate::world::World;
 use grain::Program;

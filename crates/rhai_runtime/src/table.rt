@@ -119,6 +119,16 @@ impl Table {
         None
     }
 
+    /// As [`function`](Table::function), by the name's text. What it says must be tested: nothing is proved of the table's names.
+    pub(crate) fn function_named(
+        &self,
+        program: &Program,
+        name: &str,
+        params: usize,
+    ) -> Option<usize> {
+        self.function(program, self.index_of(name)?, params)
+    }
+
     /// Whether the program has functions of this name with this number of parameters.
     pub(crate) fn has_functions(&self, name: u32, params: usize) -> bool {
         match self.meanings.get(name as usize) {

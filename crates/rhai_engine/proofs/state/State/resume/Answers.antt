@@ -1,6 +1,6 @@
 use Rattle.std.proofs.Common.{sym, ap, subst}
 use Rattle.grain.specs.Verified.{Verified}
-use Rattle.rhai_engine.specs.Runs.{Continues, chunks_of, session}
+use Rattle.rhai_engine.specs.Runs.{Continues, stage_chunks, session}
 use Rattle.rhai_engine.specs.Session.{Reports, Session}
 use Rattle.rhai_engine.proofs.Reporting.{reports}
 use Rattle.rhai_engine.proofs.state.State.resume.Goals as goal
@@ -18,6 +18,6 @@ returns-in-Ready-clause-reports c =
     let n = c.self.inside.bounds.runs in
     let event = c.resumed-stage.result.1.event in
     let continues = subst (λ (v : Verified). Continues v.program d c.in-Ready.chunk c.resumed-stage.result.0 event) c.deref.ensures c.resumed-stage.ensures.continues in
-    let was = ap chunks_of (sym c.in-Ready.ensures.value) in
+    let was = ap stage_chunks (sym c.in-Ready.ensures.value) in
     let all = reports p d n c.in-Ready.chunk c.self.inside.last c.resumed-stage.result.0 c.continued.result c.self.inside.outer.items c.continued.new.outer.items event was continues c.continued.ensures.runs c.continued.ensures.keeps in
     subst (λ (s : Session). Reports s (session p d n c.continued.result c.continued.new.outer.items) event) c.self.view_is all
