@@ -110,7 +110,7 @@ static void statuses_have_texts(void) {
     CHECK(is_text(grain_status_text(GRAIN_MALFORMED), "no program file within the limits"));
     for (int status = GRAIN_ACCEPTED; status <= GRAIN_NOT_RESTORABLE; status++)
         CHECK(!is_text(grain_status_text((grain_status)status), "no status of this interface"));
-    CHECK(is_text(grain_status_text((grain_status)(GRAIN_NOT_RESTORABLE + 1)), "no status of this interface"));
+    CHECK(is_text(grain_status_text((grain_status)(GRAIN_FOREIGN_CONSTANT + 1)), "no status of this interface"));
 }
 
 static void verifies(const grain_program *program, uint16_t depth, uint64_t visited) {

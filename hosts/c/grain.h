@@ -107,7 +107,12 @@ typedef GRAIN_ENUM(grain_status) {
     GRAIN_MALFORMED = 9,     /* the bytes aren't a program file within the limits, and why is written */
     GRAIN_TOO_LONG = 10,     /* a list of the file has 4294967296 entries or more, or a text or a blob as many bytes */
     GRAIN_BAD_LIMIT = 11,    /* a limit is above its greatest value: limits->depth above GRAIN_DEPTH_MAX */
-    GRAIN_NOT_RESTORABLE = 12 /* a sidecar wouldn't give the places back (grain_file_strip) */
+    GRAIN_NOT_RESTORABLE = 12, /* a sidecar wouldn't give the places back (grain_file_strip) */
+    GRAIN_NO_SCRIPT = 13,    /* the source text has an error, and a report is written (grain_engine.h, as all that follow) */
+    GRAIN_NO_NAME = 14,      /* the script has no function or variable of this name */
+    GRAIN_NOT_NOW = 15,      /* the state doesn't allow it now: a run can be resumed, or none waits for the host */
+    GRAIN_BAD_VALUE = 16,    /* bytes are not UTF-8, or rows are no values within the bounds */
+    GRAIN_FOREIGN_CONSTANT = 17 /* a constant of the program is a value of another host */
 } grain_status;
 
 /* Why a program is refused. Next to each flaw is what `first` and `second` of its grain_refusal are; others are 0. */

@@ -309,6 +309,11 @@ const char *grain_status_text(grain_status status) {
     case GRAIN_TOO_LONG: return "a list, a text or a blob of the file is too long";
     case GRAIN_BAD_LIMIT: return "a limit is above its greatest value";
     case GRAIN_NOT_RESTORABLE: return "a sidecar wouldn't give the file back";
+    case GRAIN_NO_SCRIPT: return "the source text has an error";
+    case GRAIN_NO_NAME: return "the script has no function or variable of this name";
+    case GRAIN_NOT_NOW: return "a run can be resumed, or none waits for the host";
+    case GRAIN_BAD_VALUE: return "a text isn't UTF-8, or rows are no values within the bounds";
+    case GRAIN_FOREIGN_CONSTANT: return "a constant is a value of another host";
     }
     return "no status of this interface";
 }

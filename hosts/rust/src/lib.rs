@@ -55,9 +55,11 @@
 //! | verify one | [`ProgramFile::into_verified`] |
 //! | write one again | [`ProgramFile::tighten`], [`ProgramFile::strip`] |
 //! | run what is accepted | [`Verified`], [`VerifiedFile`], [`Frame`], [`Instruction`], [`ProgramFile::callee`] |
+//! | run a script in this process | [`engine::Engine`] |
 //! | find lines | [`Verified::site`], [`site`], [`stream_site`] |
 //!
-//! From a program file to a run, `examples/script.rs` is a whole host.
+//! `examples/engine.rs` is a host of scripts in 30 lines. From a program file to a run on a machine of the host's own,
+//! `examples/script.rs` is a whole host.
 //!
 //! # What a host must do
 //!
@@ -84,8 +86,8 @@
 //! - The variables of a call: `DECLARE_LOCAL` takes the next slot, which a hostile program can do without end. And the steps of a
 //!   run, and how deep calls are nested.
 //!
-//! No call waits or prints. No call ends the process if the allocator refuses, except the chained calls of [`Pools`] and
-//! clones, which take memory as a `Vec` does. That is tested of each public function.
+//! No call waits or prints. No call ends the process if the allocator refuses, except the chained calls of [`Pools`], clones, and
+//! what [`engine`] does with values, which take memory as a `Vec` does. That is tested of each other public function.
 //!
 //! # Platform
 //!
@@ -101,6 +103,7 @@ struct Readme;
 mod capabilities;
 mod changed;
 mod code;
+pub mod engine;
 mod error;
 mod explained;
 mod file;

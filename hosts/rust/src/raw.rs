@@ -22,10 +22,21 @@ pub(crate) const MALFORMED: u32 = 9;
 pub(crate) const TOO_LONG: u32 = 10;
 pub(crate) const BAD_LIMIT: u32 = 11;
 pub(crate) const NOT_RESTORABLE: u32 = 12;
+pub(crate) const NO_SCRIPT: u32 = 13;
+pub(crate) const NO_NAME: u32 = 14;
+pub(crate) const NOT_NOW: u32 = 15;
+pub(crate) const BAD_VALUE: u32 = 16;
+pub(crate) const FOREIGN_CONSTANT: u32 = 17;
+
+pub(crate) const EVENT_RETURNED: u32 = 1;
+pub(crate) const EVENT_CALLS: u32 = 2;
+pub(crate) const EVENT_PAUSED: u32 = 3;
+pub(crate) const EVENT_FAULTED: u32 = 4;
 
 pub(crate) const CAUSE_TOO_LARGE: u32 = 1;
 pub(crate) const DECLARED_CAPS: u32 = 15;
 pub(crate) const DEPTH_MAX: u32 = 256;
+pub(crate) const VALUE_UNIT: u32 = 0;
 pub(crate) const VALUE_FALSE: u32 = 1;
 pub(crate) const VALUE_TRUE: u32 = 2;
 pub(crate) const VALUE_INTEGER: u32 = 3;
@@ -443,4 +454,119 @@ extern "C" {
     pub(crate) fn grain_status_text(status: u32) -> *const c_char;
     pub(crate) fn grain_interface() -> u32;
     pub(crate) fn grain_version() -> *const c_char;
+}
+
+/// A state of a script, of which only the library knows what it is.
+#[repr(C)]
+pub(crate) struct State {
+    _own: [u8; 0],
+}
+
+#[repr(C)]
+pub(crate) struct Bounds {
+    pub(crate) value_size: usize,
+    pub(crate) value_depth: usize,
+    pub(crate) calls: usize,
+    pub(crate) runs: usize,
+    pub(crate) printed: usize,
+    pub(crate) memory: usize,
+}
+
+#[repr(C)]
+pub(crate) struct Values {
+    pub(crate) rows: *const Value,
+    pub(crate) rows_len: usize,
+    pub(crate) texts: *const u8,
+    pub(crate) texts_len: usize,
+    pub(crate) count: u32,
+}
+
+impl Default for Values {
+    fn default() -> Values {
+        Values {
+            rows: std::ptr::null(),
+            rows_len: 0,
+            texts: std::ptr::null(),
+            texts_len: 0,
+            count: 0,
+        }
+    }
+}
+
+#[repr(C)]
+pub(crate) struct Asked {
+    pub(crate) name: *const c_char,
+    pub(crate) name_len: usize,
+    pub(crate) values: Values,
+}
+
+impl Default for Asked {
+    fn default() -> Asked {
+        Asked {
+            name: std::ptr::null(),
+            name_len: 0,
+            values: Values::default(),
+        }
+    }
+}
+
+extern "C" {
+    pub(crate) fn grain_state_compile(
+        state: *mut *mut State,
+        source: *const c_char,
+        source_len: usize,
+        bounds: *const Bounds,
+        text: *mut c_char,
+        text_size: usize,
+    ) -> u32;
+    pub(crate) fn grain_state_load(
+        state: *mut *mut State,
+        bytes: *const u8,
+        bytes_len: usize,
+        caps: u16,
+        limit: u64,
+        limits: *const Limits,
+        bounds: *const Bounds,
+        error: *mut ReadError,
+        report: *mut Report,
+    ) -> u32;
+    pub(crate) fn grain_state_another(other: *mut *mut State, state: *mut State) -> u32;
+    pub(crate) fn grain_state_file(state: *mut State, file: *mut Room) -> u32;
+    pub(crate) fn grain_state_free(state: *mut State);
+    pub(crate) fn grain_state_register(
+        state: *mut State,
+        name: *const c_char,
+        name_len: usize,
+        parameters: u32,
+    ) -> u32;
+    pub(crate) fn grain_state_set(
+        state: *mut State,
+        name: *const c_char,
+        name_len: usize,
+        value: *const Values,
+    ) -> u32;
+    pub(crate) fn grain_state_get(
+        state: *mut State,
+        name: *const c_char,
+        name_len: usize,
+        value: *mut Values,
+    ) -> u32;
+    pub(crate) fn grain_state_reset(state: *mut State);
+    pub(crate) fn grain_state_begin(
+        state: *mut State,
+        name: *const c_char,
+        name_len: usize,
+        arguments: *const Values,
+    ) -> u32;
+    pub(crate) fn grain_state_resume(state: *mut State, turns: u64, used: *mut u64) -> u32;
+    pub(crate) fn grain_state_asked(state: *mut State, asked: *mut Asked) -> u32;
+    pub(crate) fn grain_state_receiver(state: *mut State, value: *const Values) -> u32;
+    pub(crate) fn grain_state_answer(state: *mut State, value: *const Values) -> u32;
+    pub(crate) fn grain_state_throw(state: *mut State, value: *const Values) -> u32;
+    pub(crate) fn grain_state_fail(state: *mut State, why: *const c_char, why_len: usize) -> u32;
+    pub(crate) fn grain_state_stop(state: *mut State);
+    pub(crate) fn grain_state_fault(state: *mut State, text: *mut c_char, size: usize) -> usize;
+    pub(crate) fn grain_state_memory(state: *const State) -> usize;
+    pub(crate) fn grain_state_printed(state: *mut State, text: *mut c_char, size: usize) -> usize;
+    pub(crate) fn grain_state_take_printed(state: *mut State);
 }

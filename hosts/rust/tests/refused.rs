@@ -2,8 +2,9 @@
 //! none ends the process. That no public call is left out is tested too.
 mod common;
 
-use common::api::{public_functions, Function};
+use common::api::{engine_functions, public_functions, Function};
 use common::{bytes, sample_file, whole};
+use grain::engine::{CompileError, Engine, LoadError, RunError, State, Step as RunStep, Value};
 use grain::{
     explain, stream_sites, table_entries, tighten, verify, verify_into, Caps, Case, Chunk,
     ExplainError, Explained, FileError, Limits, Needs, PoolError, Pools, Positions, Program,
@@ -23,6 +24,8 @@ thread_local! {
     static LEFT: Cell<Option<usize>> = const { Cell::new(None) };
     /// Whether one has been refused since.
     static IS_REFUSED: Cell<bool> = const { Cell::new(false) };
+    /// Whether requests of the package are granted, and not counted.
+    static IS_LIBRARY_ALONE: Cell<bool> = const { Cell::new(false) };
     /// How many bytes the largest request of the package has.
     static LARGEST: Cell<usize> = const { Cell::new(0) };
 }
@@ -41,11 +44,16 @@ fn may_allocate() -> bool {
     }
 }
 
+/// Whether a request of the package is granted.
+fn may_package_allocate() -> bool {
+    IS_LIBRARY_ALONE.get() || may_allocate()
+}
+
 // SAFETY: all that is granted is the system's.
 unsafe impl GlobalAlloc for Refusing {
     unsafe fn alloc(&self, layout: Layout) -> *mut u8 {
         LARGEST.set(LARGEST.get().max(layout.size()));
-        if may_allocate() {
+        if may_package_allocate() {
             // SAFETY: what the caller promises.
             unsafe { System.alloc(layout) }
         } else {
@@ -60,7 +68,7 @@ unsafe impl GlobalAlloc for Refusing {
 
     unsafe fn realloc(&self, block: *mut u8, layout: Layout, size: usize) -> *mut u8 {
         LARGEST.set(LARGEST.get().max(size));
-        if may_allocate() {
+        if may_package_allocate() {
             // SAFETY: what the caller promises.
             unsafe { System.realloc(block, layout, size) }
         } else {
@@ -189,10 +197,31 @@ const FREE: [(&str, &str); 26] = [
     ("VerifyError", "refusal"),
 ];
 
+/// Calls of the module `engine` that take no memory of the library.
+const FREE_OF_ENGINE: [(&str, &str); 6] = [
+    (
+        "Bounds",
+        "calls memory new printed runs turns value_depth value_size",
+    ),
+    (
+        "Engine",
+        "bounds declare interrupt new register register_method",
+    ),
+    ("Interrupt", "clear is_raised raise"),
+    ("Script", "as_bytes"),
+    ("State", "memory reset stop take_printed used"),
+    ("Value", "type_name"),
+];
+
+/// Whether a function is in a list.
+fn is_in(list: &[(&str, &str)], function: &Function) -> bool {
+    list.iter()
+        .any(|(of, names)| *of == function.of && names.split(' ').any(|name| name == function.name))
+}
+
 /// Whether a function is known to take no memory.
 fn is_free(function: &Function) -> bool {
-    FREE.iter()
-        .any(|(of, names)| *of == function.of && names.split(' ').any(|name| name == function.name))
+    is_in(&FREE, function)
 }
 
 /// Each public function is one that this file tests, that takes no memory, or that is known to end the process. One that is new
@@ -221,6 +250,23 @@ fn no_public_call_is_left_out() {
     assert_eq!((free, all.len() > free + 25), (known, true));
 }
 
+/// Each public function of the module `engine` is one that this file tests, or that takes no memory of the library.
+#[test]
+fn no_public_call_of_the_engine_is_left_out() {
+    let own: String = include_str!("refused.rs").split_whitespace().collect();
+    let all = engine_functions();
+    for function in &all {
+        let name = function.full_name();
+        let is_tested = own.contains(&format!("refuse_library(\"{name}\","));
+        assert!(
+            is_tested != is_in(&FREE_OF_ENGINE, function),
+            "{name}: is it tested, or free? {is_tested}"
+        );
+        assert!(is_tested || !function.can_fail(), "{name} isn't tested");
+    }
+    assert!(all.len() > 30, "{}", all.len());
+}
+
 /// Calls again and again, granting no request, one, two and so on, until all are granted. `call` answers whether it ran out of
 /// memory; it must say so just where a request was refused.
 fn refuse_each(what: &str, mut call: impl FnMut() -> bool) -> usize {
@@ -231,6 +277,24 @@ fn refuse_each(what: &str, mut call: impl FnMut() -> bool) -> usize {
         LEFT.set(None);
         assert_eq!(ran_out, IS_REFUSED.get(), "{what}, {granted} granted");
         if !ran_out {
+            return granted;
+        }
+    }
+    panic!("{what} takes memory again and again");
+}
+
+/// As [`refuse_each`], of requests of the library alone. A call may also go on without memory that it only wanted to keep for later
+/// calls.
+fn refuse_library(what: &str, mut call: impl FnMut() -> bool) -> usize {
+    IS_LIBRARY_ALONE.set(true);
+    for granted in 0..10_000 {
+        IS_REFUSED.set(false);
+        LEFT.set(Some(granted));
+        let ran_out = call();
+        LEFT.set(None);
+        assert!(IS_REFUSED.get() || !ran_out, "{what}, {granted} granted");
+        if !IS_REFUSED.get() {
+            IS_LIBRARY_ALONE.set(false);
             return granted;
         }
     }
@@ -586,4 +650,154 @@ fn tables_answer_an_error() {
     let mut program = program.unwrap();
     refuse_each("Program::tighten", || program.tighten(Caps::ALL).is_err());
     assert_eq!(program.chunks(), [Chunk::new(0, 2, 1)]);
+}
+
+const SCRIPT: &str = "
+    fn f(n) { let a = [n, \"text\"]; a.push(double(n)); print(a); a }
+    fn asks(n) { let a = [n]; try { a.ask([7]); } catch (e) { a = e; } [a, a] }
+    fn known() { kept }
+    f(1)";
+
+fn engine() -> Engine {
+    let mut engine = Engine::new();
+    engine.register("double", |n: i64| n * 2).declare("ask", 2);
+    engine
+}
+
+/// Whether a call of a state ran out of memory. A script can't catch that.
+fn ran_out<T>(said: Result<T, RunError>) -> bool {
+    match said {
+        Ok(_) => false,
+        Err(RunError::OutOfMemory) => true,
+        Err(RunError::Fault(text)) => {
+            assert!(text.starts_with("Out of memory"), "{text}");
+            true
+        }
+        Err(error) => panic!("{error}"),
+    }
+}
+
+#[test]
+fn an_engine_answers_an_error() {
+    let engine = engine();
+    let script = engine.compile(SCRIPT).unwrap();
+    let taken = refuse_library("Engine::compile", || match engine.compile(SCRIPT) {
+        Ok(again) => again != script,
+        Err(CompileError::OutOfMemory) => true,
+        Err(error) => panic!("{error}"),
+    });
+    assert!(taken > 50, "{taken}");
+    let taken = refuse_library("Engine::load", || match engine.load(script.as_bytes()) {
+        Ok(again) => again != script,
+        Err(LoadError::OutOfMemory) => true,
+        Err(error) => panic!("{error}"),
+    });
+    assert!(taken > 20, "{taken}");
+    refuse_library("Engine::state", || ran_out(engine.state(&script)));
+    refuse_library("Engine::eval", || match engine.eval::<Value>(SCRIPT) {
+        Ok(_) => false,
+        Err(error) => match error.downcast::<RunError>() {
+            Ok(error) => ran_out(Err::<Value, _>(*error)),
+            Err(error) => error.to_string() == CompileError::OutOfMemory.to_string(),
+        },
+    });
+}
+
+/// A state of the script, that has not run yet.
+fn state() -> State {
+    let engine = engine();
+    engine.state(&engine.compile(SCRIPT).unwrap()).unwrap()
+}
+
+/// Has the state do again what needs no memory that isn't there.
+fn goes_on(state: &mut State) {
+    state.take_printed();
+    let value = state.call::<Vec<Value>>("f", (4,));
+    assert_eq!(value, Ok(vec![4.into(), "text".into(), 8.into()]));
+}
+
+#[test]
+fn runs_of_a_state_answer_an_error() {
+    let mut state = state();
+    let taken = refuse_library("State::run", || ran_out(state.run::<Value>()));
+    assert!(taken > 5, "{taken}");
+    refuse_library("State::call", || ran_out(state.call::<Value>("f", (4,))));
+    refuse_library("State::resume", || {
+        uncounted(|| {
+            state.start().unwrap();
+            assert_eq!(state.step(1), Ok(RunStep::Paused));
+        });
+        ran_out(state.resume::<Value>())
+    });
+    refuse_library("State::start", || {
+        let ran_out = ran_out(state.start());
+        uncounted(|| state.stop());
+        ran_out
+    });
+    refuse_library("State::start_call", || {
+        let ran_out = ran_out(state.start_call("f", (1,)));
+        uncounted(|| state.stop());
+        ran_out
+    });
+    goes_on(&mut state);
+}
+
+/// Begins a run that waits for an answer.
+fn wait(state: &mut State) {
+    state.start_call("asks", (1,)).unwrap();
+    assert!(matches!(state.step(1000), Ok(RunStep::Calls(_))));
+}
+
+#[test]
+fn steps_of_a_state_answer_an_error() {
+    let mut state = state();
+    let list = || uncounted(|| Value::from(["a", "b"]));
+    let taken = refuse_library("State::step", || {
+        uncounted(|| state.start_call("asks", (1,)).unwrap());
+        let called = state.step(1000);
+        if called.is_err() {
+            return ran_out(called);
+        }
+        uncounted(|| {
+            state.set_receiver(["c"]).unwrap();
+            state.answer(5).unwrap();
+        });
+        ran_out(state.step(1000))
+    });
+    assert!(taken > 3, "{taken}");
+    refuse_library("State::answer", || {
+        uncounted(|| wait(&mut state));
+        let ran_out = ran_out(state.answer(list()));
+        uncounted(|| state.stop());
+        ran_out
+    });
+    refuse_library("State::set_receiver", || {
+        uncounted(|| wait(&mut state));
+        let ran_out = ran_out(state.set_receiver(list()));
+        uncounted(|| state.stop());
+        ran_out
+    });
+    refuse_library("State::set", || ran_out(state.set("kept", list())));
+    refuse_library("State::get", || ran_out(state.get::<Value>("kept")));
+    assert_eq!(state.get("kept"), Ok(list()));
+    goes_on(&mut state);
+}
+
+/// What ends runs takes no memory of the library, and neither does the output.
+#[test]
+fn a_state_ends_runs_without_memory() {
+    let mut state = state();
+    wait(&mut state);
+    state.start_call("f", (1,)).unwrap();
+    IS_REFUSED.set(false);
+    IS_LIBRARY_ALONE.set(true);
+    LEFT.set(Some(0));
+    state.stop();
+    state.stop();
+    let printed = state.take_printed();
+    state.reset();
+    LEFT.set(None);
+    IS_LIBRARY_ALONE.set(false);
+    assert_eq!((IS_REFUSED.get(), &*printed), (false, ""));
+    goes_on(&mut state);
 }

@@ -37,15 +37,31 @@ impl Function {
         returned.contains("Rejected<")
             || returned.contains("Result<") && ERRORS.iter().any(|error| returned.contains(error))
     }
+
+    /// Whether it returns an error.
+    pub fn can_fail(&self) -> bool {
+        self.signature.contains("-> Result<")
+    }
 }
 
-/// All of them, of all sources.
+/// All of them, of all sources but those of the module `engine`.
 pub fn public_functions() -> Vec<Function> {
-    let folder = Path::new(env!("CARGO_MANIFEST_DIR")).join("src");
+    functions_in("src")
+}
+
+/// Those of the module `engine`, which take memory as a `Vec` does, except that of the library.
+pub fn engine_functions() -> Vec<Function> {
+    functions_in("src/engine")
+}
+
+fn functions_in(folder: &str) -> Vec<Function> {
+    let folder = Path::new(env!("CARGO_MANIFEST_DIR")).join(folder);
     let mut all = Vec::new();
     for entry in fs::read_dir(folder).unwrap() {
         let path = entry.unwrap().path();
-        functions_of(&fs::read_to_string(path).unwrap(), &mut all);
+        if path.is_file() {
+            functions_of(&fs::read_to_string(path).unwrap(), &mut all);
+        }
     }
     all
 }

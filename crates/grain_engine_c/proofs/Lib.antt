@@ -1,0 +1,4 @@
+pub mod DropGlue
+pub mod NewSession
+pub mod SessionWords
+pub mod Words

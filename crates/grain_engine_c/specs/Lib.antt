@@ -1,0 +1,3 @@
+-- what handles keep, and what is said by number
+pub mod Holds
+pub mod Numbers

@@ -1,0 +1,140 @@
+//! Functions of the host, and what scripts print.
+
+use crate::host::{FUEL, called, made, number, returned, state_of};
+use rhai_engine::{BeginError, Bounds, Event, State};
+use rhai_values::{Cause, SizeLimits, Value};
+use std::alloc::Global;
+use std::test::Fail;
+
+const ASKING: &str = "
+    fn double(x) { 2 * x }
+    fn outer(x) { let y = ask(x); try { y += ask(100) } catch (e) { y += e } y + x }
+    let total = outer(1);
+    try { total += ask(200) } catch (e) { total += 1000 }
+    total
+";
+
+/// A state in which the run of the top level waits for its first call of the host.
+fn asking(alloc: Global, source: &str, bounds: Bounds) -> Result<State, Fail> {
+    let mut state = state_of(alloc, source, bounds)?;
+    state.register("ask", 1)?;
+    if state.begin().is_err() || returned(&mut state) != -2 {
+        return Err(Fail::new("the run doesn't wait"));
+    }
+    Ok(state)
+}
+
+/// The argument of the call for which the run waits.
+fn argument(state: &State) -> i64 {
+    match state.asked() {
+        Some(asked) if asked.name() == "ask" => number(asked.arguments().first()),
+        _ => -1,
+    }
+}
+
+/// Whether a run has failed by a value that is too large.
+fn is_too_large(event: &Event) -> bool {
+    match event {
+        Event::Failed(fault) => matches!(&fault.cause, Cause::TooLarge),
+        _ => false,
+    }
+}
+
+/// The arguments of three calls, of which the first is answered, the second throws and the third returns a value that is too large; and
+/// whether the run fails by that.
+fn answers(alloc: Global) -> Result<([i64; 3], bool), Fail> {
+    let bounds = Bounds {
+        size: SizeLimits { size: 50, depth: 5 },
+        ..Bounds::DEFAULT
+    };
+    let mut state = asking(alloc, ASKING, bounds)?;
+    let first = argument(&state);
+    let _paused = state.answer(Value::Int(5));
+    let _calls = state.resume(FUEL);
+    let second = argument(&state);
+    let _paused = state.fail(Cause::Thrown(Value::Int(7)));
+    let _calls = state.resume(FUEL);
+    let third = argument(&state);
+    let long = "a text of more than fifty characters, which no limit of fifty allows";
+    let value = Value::text(alloc, String::from_str(alloc, long)?)?;
+    let ended = is_too_large(&state.answer(value));
+    Ok(([first, second, third], ended))
+}
+
+#[test]
+fn calls_are_answered_and_fail(rt: HostRuntime) {
+    assert!(&rt; made(&rt, answers(rt.alloc())) == ([1, 100, 200], true));
+}
+
+/// What nested calls of a function return, while the run waits for two calls; what the run returns; and how many nested runs there can be.
+fn nested(alloc: Global) -> Result<[i64; 4], Fail> {
+    let bounds = Bounds {
+        runs: 1,
+        ..Bounds::DEFAULT
+    };
+    let mut state = asking(alloc, ASKING, bounds)?;
+    let doubled = called(alloc, &mut state, "double", 21)?;
+    // A nested run of `outer` waits for a call of its own, and no third run begins.
+    let waits = called(alloc, &mut state, "outer", 3)?;
+    let refused = match state.begin_call("double", vec![in alloc; Value::Int(1)]?) {
+        Err(BeginError::TooManyRuns) => argument(&state),
+        _ => -5,
+    };
+    let _paused = state.answer(Value::Int(10));
+    let _calls = state.resume(FUEL);
+    let _failed = state.fail(Cause::World(String::new(alloc)));
+    // The run of the top level waits for its first call again.
+    let _paused = state.answer(Value::Int(argument(&state)));
+    let _calls = state.resume(FUEL);
+    let _paused = state.answer(Value::Int(2));
+    let _calls = state.resume(FUEL);
+    let _paused = state.answer(Value::Int(3));
+    Ok([doubled, waits, refused, returned(&mut state)])
+}
+
+#[test]
+fn functions_run_while_a_call_waits(rt: HostRuntime) {
+    assert!(&rt; made(&rt, nested(rt.alloc())) == [42, -2, 3, 7]);
+}
+
+/// Whether a receiver that the host changes is changed in its variable.
+fn receiver(alloc: Global) -> Result<i64, Fail> {
+    let mut state = asking(alloc, "let x = 3; x.ask(); x", Bounds::DEFAULT)?;
+    let old = number(state.replace_receiver(Value::Int(8)).as_ref());
+    if old != 3 {
+        return Err(Fail::new("the receiver is another one"));
+    }
+    let _paused = state.answer(Value::Unit);
+    Ok(returned(&mut state))
+}
+
+#[test]
+fn a_receiver_changes(rt: HostRuntime) {
+    assert!(&rt; made(&rt, receiver(rt.alloc())) == 8);
+}
+
+/// What is printed by a script that prints more than is kept, and how its run ends.
+fn printed(alloc: Global) -> Result<(String, i64), Fail> {
+    let bounds = Bounds {
+        printed: 8,
+        ..Bounds::DEFAULT
+    };
+    let source = "try { for i in 1..9 { print(i * 100); } } catch { }";
+    let mut state = state_of(alloc, source, bounds)?;
+    if state.begin().is_err() {
+        return Err(Fail::new("no run begins"));
+    }
+    let ended = returned(&mut state);
+    let text = String::from_str(alloc, state.printed())?;
+    state.clear_printed();
+    if state.printed() != "" {
+        return Err(Fail::new("the output isn't cleared"));
+    }
+    Ok((text, ended))
+}
+
+#[test]
+fn output_is_bounded(rt: HostRuntime) {
+    let (text, ended) = made(&rt, printed(rt.alloc()));
+    assert!(&rt; text.as_str() == "100\n200\n" && ended == -3);
+}

@@ -1,0 +1,2 @@
+-- what hosts are shown
+pub mod Shown

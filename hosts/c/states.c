@@ -1,0 +1,289 @@
+/* Tries the calls of grain_engine.h: what each does, each status, and that a refused call changes nothing. Then each allocation is
+ * refused in turn: nothing leaks, and the state can still be used. */
+#include "grain_engine.h"
+
+#include "checks.h"
+#include <stdlib.h>
+#include <string.h>
+
+static long left = -1; /* how many allocations succeed still; all if it is negative */
+static long live = 0;  /* how many blocks there are */
+
+static bool is_refused(void) {
+    if (left == 0)
+        return true;
+    left -= left > 0;
+    return false;
+}
+
+void *grain_alloc(size_t size, size_t alignment) {
+    void *block = is_refused() || alignment > 16 ? NULL : malloc(size);
+    live += block != NULL;
+    return block;
+}
+
+void *grain_realloc(void *block, size_t old_size, size_t size, size_t alignment) {
+    (void)old_size;
+    (void)alignment;
+    return is_refused() ? NULL : realloc(block, size);
+}
+
+void grain_dealloc(void *block) {
+    live--;
+    free(block);
+}
+
+static const char script[] = "let calls = 0;\n"
+                             "fn twice(n) { double(n) }\n"
+                             "fn caught(n) { let x = 0; try { x = fetch(n); } catch (e) { x = e; } x }\n"
+                             "fn uncaught() { fetch(1) }\n"
+                             "fn endless() { loop { } }\n"
+                             "fn deep(n) { deep(n + 1) }\n"
+                             "fn kinds() { [(), true, -3, 'c', \"text\", 1..4, [1, [2]], #{a: 1, b: \"x\"}] }\n"
+                             "fn same(x) { x }\n"
+                             "fn say() { print(\"line\"); 1 }\n"
+                             "fn known() { shown }\n"
+                             "fn grown() { let x = 3; x.double(); x }\n"
+                             "fn divide(n) {\n  1 / n\n}\n"
+                             "calls + 40 + double(1)";
+
+static grain_values one(const grain_value *row, const char *text) {
+    return (grain_values){row, 1, (const uint8_t *)text, text != NULL ? strlen(text) : 0, 1};
+}
+
+static grain_status begin(grain_state *state, const char *name, const grain_values *arguments) {
+    return grain_state_begin(state, name, name != NULL ? strlen(name) : 0, arguments);
+}
+
+static bool is_asked(grain_state *state, const char *name, int64_t argument) {
+    grain_asked asked;
+    return grain_state_asked(state, &asked) == GRAIN_ACCEPTED && asked.name_len == strlen(name) &&
+           memcmp(asked.name, name, asked.name_len) == 0 && asked.values.count == 1 && asked.values.rows[0].number == argument;
+}
+
+static bool is_returned(grain_state *state, int64_t number) {
+    grain_asked asked;
+    return grain_state_resume(state, 1000, NULL) == GRAIN_EVENT_RETURNED && grain_state_asked(state, &asked) == GRAIN_ACCEPTED &&
+           asked.values.count == 1 && asked.values.rows[0].tag == GRAIN_VALUE_INTEGER && asked.values.rows[0].number == number;
+}
+
+static grain_state *compiled(void) {
+    static const grain_bounds bounds = {10000, 16, 50, 2, 64, 1 << 22};
+    grain_state *state = NULL;
+    CHECK(grain_state_compile(&state, script, sizeof script - 1, &bounds, NULL, 0) == GRAIN_ACCEPTED);
+    CHECK(grain_state_register(state, "double", 6, 1) == GRAIN_ACCEPTED);
+    CHECK(grain_state_register(state, "fetch", 5, 1) == GRAIN_ACCEPTED);
+    return state;
+}
+
+static void try_errors(void) {
+    char text[400], cut[9];
+    grain_state *state;
+    grain_bounds deep = GRAIN_BOUNDS_DEFAULT;
+    CHECK(grain_state_compile(&state, "let x = ;", 9, NULL, text, sizeof text) == GRAIN_NO_SCRIPT && state == NULL);
+    CHECK(strstr(text, "script:1:9: error") == text);
+    CHECK(grain_state_compile(&state, "let x = ;", 9, NULL, cut, sizeof cut) == GRAIN_NO_SCRIPT && strcmp(cut, "script:1") == 0);
+    CHECK(grain_state_compile(&state, "\xff", 1, NULL, text, sizeof text) == GRAIN_NO_SCRIPT);
+    deep.value_depth = GRAIN_DEPTH_MAX + 1;
+    CHECK(grain_state_compile(&state, "1", 1, &deep, text, sizeof text) == GRAIN_BAD_LIMIT && state == NULL);
+    grain_read_error error;
+    CHECK(grain_state_load(&state, NULL, 0, GRAIN_CAP_ALL, GRAIN_NO_LIMIT, NULL, NULL, &error, NULL) == GRAIN_MALFORMED);
+    CHECK(state == NULL && error.cause == GRAIN_CAUSE_TRUNCATED);
+    grain_state_free(NULL);
+}
+
+/* Runs and calls: what comes in which order, and what isn't possible then. */
+static void try_runs(grain_state *state) {
+    grain_value row = grain_integer(21), answer = grain_integer(42);
+    grain_values argument = one(&row, NULL), value = one(&answer, NULL);
+    uint64_t used = 99;
+    grain_asked asked;
+    CHECK(grain_state_resume(state, 10, &used) == GRAIN_EVENT_IDLE && used == 0);
+    CHECK(grain_state_answer(state, &value) == GRAIN_NOT_NOW && grain_state_asked(state, &asked) == GRAIN_NOT_NOW);
+    CHECK(begin(state, "twice", NULL) == GRAIN_NO_NAME && begin(state, "nothing", NULL) == GRAIN_NO_NAME);
+    CHECK(begin(state, "twice", &argument) == GRAIN_ACCEPTED && begin(state, NULL, NULL) == GRAIN_NOT_NOW);
+    CHECK(grain_state_resume(state, 1000, &used) == GRAIN_EVENT_CALLS && is_asked(state, "double", 21));
+    CHECK(grain_state_resume(state, 1000, &used) == GRAIN_EVENT_CALLS && used == 0);
+    /* Another run meanwhile, but not of the top level. */
+    CHECK(begin(state, NULL, NULL) == GRAIN_NOT_NOW && begin(state, "same", &value) == GRAIN_ACCEPTED && is_returned(state, 42));
+    CHECK(grain_state_resume(state, 1000, &used) == GRAIN_EVENT_CALLS && used == 0 && is_asked(state, "double", 21));
+    CHECK(grain_state_answer(state, &value) == GRAIN_ACCEPTED && grain_state_answer(state, &value) == GRAIN_NOT_NOW);
+    CHECK(is_returned(state, 42));
+    CHECK(begin(state, NULL, NULL) == GRAIN_ACCEPTED && grain_state_resume(state, 1000, NULL) == GRAIN_EVENT_CALLS);
+    answer.number = 2;
+    CHECK(grain_state_answer(state, &value) == GRAIN_ACCEPTED && is_returned(state, 42));
+    /* A method changes its receiver. */
+    CHECK(grain_state_receiver(state, &value) == GRAIN_NOT_NOW && begin(state, "grown", NULL) == GRAIN_ACCEPTED);
+    CHECK(grain_state_resume(state, 1000, NULL) == GRAIN_EVENT_CALLS && is_asked(state, "double", 3));
+    answer.number = 6;
+    CHECK(grain_state_receiver(state, &value) == GRAIN_ACCEPTED && grain_state_answer(state, &value) == GRAIN_ACCEPTED);
+    CHECK(is_returned(state, 6) && begin(state, "endless", NULL) == GRAIN_ACCEPTED);
+    CHECK(grain_state_resume(state, 500, &used) == GRAIN_EVENT_PAUSED && used == 500);
+    CHECK(begin(state, "endless", NULL) == GRAIN_NOT_NOW);
+    grain_state_stop(state);
+    CHECK(grain_state_resume(state, 500, &used) == GRAIN_EVENT_IDLE);
+}
+
+static bool faults_with(grain_state *state, const char *text) {
+    char fault[500];
+    if (grain_state_resume(state, 100000, NULL) != GRAIN_EVENT_FAULTED || grain_state_fault(state, fault, sizeof fault) == 0)
+        return false;
+    if (strstr(fault, text) == NULL)
+        printf("%s\n", fault);
+    return strstr(fault, text) != NULL;
+}
+
+static void try_faults(grain_state *state) {
+    grain_value row = grain_integer(0), thrown = grain_integer(7);
+    grain_values argument = one(&row, NULL), value = one(&thrown, NULL);
+    CHECK(begin(state, "divide", &argument) == GRAIN_ACCEPTED && faults_with(state, "(line 13, position 5)"));
+    CHECK(begin(state, "deep", &argument) == GRAIN_ACCEPTED && faults_with(state, "called from deep:6:"));
+    CHECK(begin(state, "caught", &argument) == GRAIN_ACCEPTED && grain_state_resume(state, 1000, NULL) == GRAIN_EVENT_CALLS);
+    CHECK(grain_state_throw(state, &value) == GRAIN_ACCEPTED && is_returned(state, 7));
+    CHECK(begin(state, "uncaught", NULL) == GRAIN_ACCEPTED && grain_state_resume(state, 1000, NULL) == GRAIN_EVENT_CALLS);
+    CHECK(grain_state_fail(state, "\xff", 1) == GRAIN_BAD_VALUE);
+    CHECK(grain_state_fail(state, "no network", 10) == GRAIN_ACCEPTED && begin(state, "say", NULL) == GRAIN_NOT_NOW);
+    CHECK(faults_with(state, "no network"));
+    CHECK(begin(state, "caught", &argument) == GRAIN_ACCEPTED && grain_state_resume(state, 1000, NULL) == GRAIN_EVENT_CALLS);
+    CHECK(grain_state_fail(state, "no network", 10) == GRAIN_ACCEPTED && faults_with(state, "no network"));
+}
+
+/* Each kind of value goes to the host and back, and is the same. */
+static void try_values(grain_state *state) {
+    grain_asked asked;
+    grain_value rows[32], bad = {99, 0, 0};
+    uint8_t texts[32];
+    CHECK(begin(state, "kinds", NULL) == GRAIN_ACCEPTED && grain_state_resume(state, 1000, NULL) == GRAIN_EVENT_RETURNED);
+    CHECK(grain_state_asked(state, &asked) == GRAIN_ACCEPTED && asked.values.rows_len == 18 && asked.values.texts_len == 7);
+    if (asked.values.rows_len > LENGTH(rows) || asked.values.texts_len > LENGTH(texts))
+        return;
+    grain_values copy = {memcpy(rows, asked.values.rows, asked.values.rows_len * sizeof *rows), asked.values.rows_len,
+                         memcpy(texts, asked.values.texts, asked.values.texts_len), asked.values.texts_len, 1};
+    CHECK(begin(state, "same", &copy) == GRAIN_ACCEPTED && grain_state_resume(state, 1000, NULL) == GRAIN_EVENT_RETURNED);
+    CHECK(grain_state_asked(state, &asked) == GRAIN_ACCEPTED && asked.values.rows_len == copy.rows_len &&
+          memcmp(asked.values.rows, rows, copy.rows_len * sizeof *rows) == 0 && memcmp(asked.values.texts, texts, copy.texts_len) == 0);
+    grain_values wrongs[] = {one(&bad, NULL), {rows, 1, NULL, 0, 2}, {rows, copy.rows_len - 1, texts, copy.texts_len, 1}, {rows, 0, NULL, 0, 1}};
+    for (size_t i = 0; i < LENGTH(wrongs); i++)
+        CHECK(begin(state, "same", &wrongs[i]) == GRAIN_BAD_VALUE);
+    CHECK(grain_state_resume(state, 1, NULL) == GRAIN_EVENT_IDLE);
+}
+
+static void try_variables(grain_state *state) {
+    grain_value row = grain_integer(5);
+    grain_values value = one(&row, NULL), found;
+    char text[70];
+    CHECK(grain_state_get(state, "shown", 5, &found) == GRAIN_NO_NAME && grain_state_set(state, "absent", 6, &value) == GRAIN_NO_NAME);
+    CHECK(grain_state_set(state, "shown", 5, &value) == GRAIN_ACCEPTED);
+    CHECK(grain_state_get(state, "shown", 5, &found) == GRAIN_ACCEPTED && found.count == 1 && found.rows[0].number == 5);
+    CHECK(begin(state, "known", NULL) == GRAIN_ACCEPTED && is_returned(state, 5));
+    CHECK(begin(state, "say", NULL) == GRAIN_ACCEPTED && is_returned(state, 1));
+    CHECK(grain_state_printed(state, text, sizeof text) == 5 && strcmp(text, "line\n") == 0);
+    grain_state_take_printed(state);
+    CHECK(grain_state_printed(state, NULL, 0) == 0);
+    for (int i = 0; i < 12; i++)
+        CHECK(begin(state, "say", NULL) == GRAIN_ACCEPTED && is_returned(state, 1));
+    CHECK(begin(state, "say", NULL) == GRAIN_ACCEPTED && faults_with(state, "Too much output"));
+    grain_state_reset(state);
+    CHECK(grain_state_get(state, "shown", 5, &found) == GRAIN_NO_NAME && grain_state_printed(state, NULL, 0) == 0);
+}
+
+static void try_files(grain_state *state) {
+    static uint8_t bytes[4096];
+    grain_room file = {NULL, 0, 0};
+    grain_state *loaded, *another;
+    grain_report report;
+    CHECK(grain_state_file(state, &file) == GRAIN_SHORT && file.size <= sizeof bytes);
+    file = (grain_room){bytes, sizeof bytes, 0};
+    CHECK(grain_state_file(state, &file) == GRAIN_ACCEPTED);
+    CHECK(grain_state_load(&loaded, bytes, file.size, GRAIN_CAP_ALL, GRAIN_NO_LIMIT, NULL, NULL, NULL, NULL) == GRAIN_ACCEPTED);
+    CHECK(grain_state_another(&another, loaded) == GRAIN_ACCEPTED);
+    CHECK(begin(another, "say", NULL) == GRAIN_ACCEPTED && is_returned(another, 1) && grain_state_printed(loaded, NULL, 0) == 0);
+    grain_state_free(loaded);
+    CHECK(begin(another, "say", NULL) == GRAIN_ACCEPTED && is_returned(another, 1));
+    grain_state_free(another);
+    CHECK(grain_state_load(&loaded, bytes, file.size, 0, GRAIN_NO_LIMIT, NULL, NULL, NULL, &report) == GRAIN_REFUSED);
+    CHECK(loaded == NULL && report.refusal.flaw == GRAIN_FLAW_DECLARED_CAPS);
+    CHECK(grain_state_load(&loaded, bytes, file.size, GRAIN_CAP_ALL, 1, NULL, NULL, NULL, NULL) == GRAIN_TOO_MUCH_WORK);
+}
+
+/* A state takes no more memory than its bounds say, and can be used when it has tried to. */
+static void try_memory(void) {
+    static const char text[] = "fn fill() { let a = []; loop { a.push([a.len()]); } } fn same(x) { x }";
+    grain_bounds bounds = GRAIN_BOUNDS_DEFAULT;
+    grain_value row = grain_integer(3);
+    grain_values value = one(&row, NULL);
+    grain_state *state, *other;
+    bounds.memory = 1000;
+    CHECK(grain_state_compile(&state, text, sizeof text - 1, &bounds, NULL, 0) == GRAIN_OUT_OF_MEMORY && state == NULL);
+    bounds.memory = 1 << 20;
+    CHECK(grain_state_compile(&state, text, sizeof text - 1, &bounds, NULL, 0) == GRAIN_ACCEPTED);
+    CHECK(grain_state_another(&other, state) == GRAIN_ACCEPTED);
+    size_t before = grain_state_memory(state), fewer = grain_state_memory(other);
+    CHECK(before > 0 && fewer < before);
+    for (int i = 0; i < 2; i++) {
+        CHECK(begin(state, "fill", NULL) == GRAIN_ACCEPTED);
+        CHECK(grain_state_resume(state, 1000000, NULL) == GRAIN_EVENT_OUT_OF_MEMORY && grain_state_memory(state) <= bounds.memory);
+        CHECK(begin(state, "same", &value) == GRAIN_ACCEPTED && is_returned(state, 3));
+        CHECK(begin(other, "same", &value) == GRAIN_ACCEPTED && is_returned(other, 3));
+    }
+    grain_state_reset(state);
+    CHECK(grain_state_memory(state) < before + 4096);
+    /* The program that they share is freed with the last of them. */
+    grain_state_free(state);
+    CHECK(begin(other, "same", &value) == GRAIN_ACCEPTED && is_returned(other, 3));
+    grain_state_free(other);
+}
+
+/* Compiles, calls and answers until something is refused; whether nothing was. */
+static bool runs_through(void) {
+    static const char text[] = "fn f(n) { let a = [n, \"text\"]; a.push(double(n)); print(a); a } f(1)";
+    grain_value row = grain_integer(4);
+    grain_values value = one(&row, NULL);
+    grain_asked asked;
+    grain_state *state;
+    grain_status status = grain_state_compile(&state, text, sizeof text - 1, NULL, NULL, 0);
+    if (status != GRAIN_ACCEPTED) {
+        CHECK(status == GRAIN_OUT_OF_MEMORY && state == NULL);
+        return false;
+    }
+    bool well = grain_state_register(state, "double", 6, 1) == GRAIN_ACCEPTED && begin(state, "f", &value) == GRAIN_ACCEPTED &&
+                grain_state_resume(state, 100, NULL) == GRAIN_EVENT_CALLS && grain_state_asked(state, &asked) == GRAIN_ACCEPTED &&
+                grain_state_answer(state, &value) == GRAIN_ACCEPTED && grain_state_resume(state, 1000, NULL) == GRAIN_EVENT_RETURNED &&
+                grain_state_asked(state, &asked) == GRAIN_ACCEPTED;
+    if (!well) {
+        left = -1;
+        grain_state_reset(state);
+        CHECK(grain_state_register(state, "double", 6, 1) == GRAIN_ACCEPTED && begin(state, "f", &value) == GRAIN_ACCEPTED);
+        CHECK(grain_state_resume(state, 100, NULL) == GRAIN_EVENT_CALLS);
+    }
+    grain_state_free(state);
+    return well;
+}
+
+static void try_refused(void) {
+    long refused = 0;
+    bool well = false;
+    for (; !well && refused < 100000; refused++) {
+        left = refused;
+        well = runs_through();
+        left = -1;
+        CHECK(live == 0);
+    }
+    CHECK(refused > 50 && refused < 100000);
+    printf("%ld allocations refused\n", refused - 1);
+}
+
+int main(void) {
+    try_errors();
+    grain_state *state = compiled();
+    try_runs(state);
+    try_faults(state);
+    try_values(state);
+    try_variables(state);
+    try_files(state);
+    grain_state_free(state);
+    try_memory();
+    CHECK(live == 0);
+    try_refused();
+    return wrong != 0;
+}

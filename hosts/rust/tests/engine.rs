@@ -1,0 +1,247 @@
+//! Scripts in this process: states, functions of the host, bounds, and threads.
+use grain::engine::{
+    Bounds, CompileError, Engine, HostError, Interrupt, LoadError, RunError, Script, State, Value,
+    WrongType,
+};
+use grain::{FileError, Limits};
+use std::error::Error;
+use std::panic::{catch_unwind, AssertUnwindSafe};
+use std::thread;
+use std::time::Duration;
+
+fn engine() -> Engine {
+    let mut engine = Engine::new();
+    engine.register("double", |n: i64| n * 2);
+    engine
+}
+
+fn state(engine: &Engine, text: &str) -> State {
+    engine.state(&engine.compile(text).unwrap()).unwrap()
+}
+
+#[test]
+fn variables_stay_between_calls_and_functions_call_back() {
+    let mut engine = engine();
+    engine.register(
+        "twice",
+        |state: &mut State, n: i64| -> Result<i64, RunError> {
+            let once: i64 = state.call("step", (n,))?;
+            state.call("step", (once,))
+        },
+    );
+    let mut state = state(&engine, "fn step(n) { double(n) + offset } twice(1)");
+    state.set("offset", 1).unwrap();
+    assert_eq!(state.run::<i64>(), Ok(7));
+    state.set("offset", 0).unwrap();
+    assert_eq!(state.run::<i64>(), Ok(4));
+    assert_eq!(state.get::<i64>("offset"), Ok(0));
+    let wrong = WrongType {
+        wanted: "string",
+        found: "i64",
+    };
+    assert_eq!(
+        state.call::<String>("step", (1,)),
+        Err(RunError::Type(wrong))
+    );
+    assert_eq!(
+        state.call::<i64>("step", (1, 2)),
+        Err(RunError::NoName("step".into()))
+    );
+}
+
+#[test]
+fn errors_and_faults_have_lines() {
+    let engine = engine();
+    let Err(CompileError::Script(report)) = engine.compile("let x = 1;\nlet y = ;") else {
+        panic!("compiled");
+    };
+    assert!(report.starts_with("script:2:9: error"), "{report}");
+    let mut state = state(&engine, "fn f(n) {\n  1 / n\n}\nf(0)");
+    let Err(RunError::Fault(fault)) = state.run::<i64>() else {
+        panic!("returned");
+    };
+    assert!(
+        fault.contains("(line 2, position 5)") && fault.contains("called from main:4:1"),
+        "{fault}"
+    );
+}
+
+#[test]
+fn a_script_catches_what_is_thrown_and_not_what_fails() {
+    let mut engine = engine();
+    engine.register("fetch", |name: String| match name.as_str() {
+        "a" => Ok(7),
+        "b" => Err(HostError::Throw(format!("no {name}").into())),
+        _ => Err(HostError::Fail("no network".into())),
+    });
+    let mut state = state(
+        &engine,
+        "fn get(key) { let x = 0; try { x = fetch(key); } catch (e) { x = e; } x } 0",
+    );
+    assert_eq!(state.call::<i64>("get", ("a",)), Ok(7));
+    assert_eq!(state.call::<String>("get", ("b",)), Ok("no b".into()));
+    assert!(
+        matches!(state.call::<i64>("get", ("c",)), Err(RunError::Fault(text)) if text.contains("no network"))
+    );
+    assert_eq!(
+        state.call::<String>("get", (1,)),
+        Ok("expected string, found i64".into())
+    );
+}
+
+#[test]
+fn turns_calls_values_and_an_interrupt_bound_a_run() {
+    let mut engine = engine();
+    let mut bounds = Bounds::default();
+    (bounds.turns, bounds.calls, bounds.value_size) = (10_000, 50, 1000);
+    engine.bounds(bounds);
+    let text = "fn deep(n) { deep(n) } fn ever() { loop { } } fn long() { let s = \"x\"; loop { s += s } } 1";
+    let mut state = state(&engine, text);
+    assert!(matches!(
+        state.call::<i64>("deep", (1,)),
+        Err(RunError::Fault(_))
+    ));
+    assert!(matches!(
+        state.call::<i64>("long", ()),
+        Err(RunError::Fault(_))
+    ));
+    assert_eq!(state.call::<i64>("ever", ()), Err(RunError::Paused));
+    assert_eq!(state.run::<i64>(), Err(RunError::NotNow));
+    let used = state.used();
+    assert_eq!(state.resume::<i64>(), Err(RunError::Paused));
+    assert_eq!(state.used(), used + 10_000);
+    state.stop();
+    assert_eq!(state.run::<i64>(), Ok(1));
+
+    let mut engine = Engine::new();
+    engine.bounds(Bounds::default());
+    let interrupt = engine.interrupt();
+    let mut endless = engine.state(&engine.compile("loop { }").unwrap()).unwrap();
+    thread::spawn(move || {
+        thread::sleep(Duration::from_millis(20));
+        interrupt.raise();
+    });
+    assert_eq!(endless.run::<()>(), Err(RunError::Paused));
+}
+
+#[test]
+fn a_panic_of_a_closure_ends_the_run_and_not_the_state() {
+    let mut engine = engine();
+    engine.register("boom", || -> i64 { panic!("boom") });
+    let mut state = state(&engine, "fn f() { boom() } fn g() { double(3) } 5");
+    let panicked = catch_unwind(AssertUnwindSafe(|| state.call::<i64>("f", ())));
+    assert!(panicked.is_err());
+    assert_eq!(state.call::<i64>("g", ()), Ok(6));
+    assert_eq!(state.run::<i64>(), Ok(5));
+}
+
+#[test]
+fn scripts_are_shared_by_threads() {
+    let engine = engine();
+    let script = engine.compile("fn f(n) { double(n) } 0").unwrap();
+    thread::scope(|scope| {
+        for k in 0..4i64 {
+            let (engine, script) = (&engine, &script);
+            scope.spawn(move || {
+                let mut state = engine.state(script).unwrap();
+                for n in 0..100 {
+                    assert_eq!(state.call::<i64>("f", (n + k,)), Ok(2 * (n + k)));
+                }
+            });
+        }
+    });
+}
+
+#[test]
+fn scripts_are_loaded_again() {
+    let engine = engine();
+    let script = engine.compile("fn f(n) { double(n) } f(4)").unwrap();
+    let loaded: Script = engine.load(script.as_bytes()).unwrap();
+    assert_eq!(loaded, script);
+    assert_eq!(engine.state(&loaded).unwrap().run::<i64>(), Ok(8));
+    assert!(matches!(engine.load(b"nothing"), Err(LoadError::File(_))));
+    assert_eq!(engine.eval::<i64>("double(1) + 1").unwrap(), 3);
+}
+
+#[test]
+fn output_is_kept_until_it_is_taken() {
+    let mut state = state(&engine(), "print(1); print(\"two\"); 3");
+    assert_eq!(state.run::<i64>(), Ok(3));
+    assert_eq!(state.take_printed(), "1\ntwo\n");
+    assert_eq!(state.take_printed(), "");
+}
+
+#[test]
+fn bounds_and_an_interrupt_are_values() {
+    let bounds = Bounds::new()
+        .turns(1)
+        .calls(2)
+        .runs(3)
+        .value_size(4)
+        .value_depth(5)
+        .printed(6)
+        .memory(7);
+    let all = (bounds.turns, bounds.calls, bounds.runs);
+    assert_eq!(all, (1, 2, 3));
+    let all = (bounds.value_size, bounds.value_depth);
+    assert_eq!(all, (4, 5));
+    assert_eq!((bounds.printed, bounds.memory), (6, 7));
+    assert_eq!(Bounds::new(), Bounds::default());
+    let interrupt = Interrupt::default();
+    assert!(!interrupt.is_raised());
+    interrupt.clone().raise();
+    assert!(interrupt.is_raised());
+    interrupt.clear();
+    assert!(!interrupt.is_raised());
+    let mut engine = Engine::new();
+    engine.bounds(Bounds::new().value_depth(257));
+    assert_eq!(engine.compile("1"), Err(CompileError::BadLimit));
+}
+
+#[test]
+fn a_state_takes_no_more_memory_than_its_bounds_say() {
+    let text = "fn fill() { let a = []; loop { a.push([a.len()]); } } fn one() { 1 } 0";
+    let mut engine = Engine::new();
+    engine.bounds(Bounds::new().memory(1 << 20));
+    let mut state = state(&engine, text);
+    let before = state.memory();
+    for _ in 0..2 {
+        match state.call::<()>("fill", ()) {
+            Err(RunError::OutOfMemory) => {}
+            Err(RunError::Fault(text)) => assert!(text.starts_with("Out of memory"), "{text}"),
+            other => panic!("{other:?}"),
+        }
+        assert!(state.memory() <= 1 << 20);
+        assert_eq!(state.call::<i64>("one", ()), Ok(1));
+    }
+    state.reset();
+    assert!(0 < before && state.memory() < before + 4096);
+    engine.bounds(Bounds::new().memory(1000));
+    assert_eq!(engine.compile(text), Err(CompileError::OutOfMemory));
+}
+
+#[test]
+fn errors_say_why_and_have_sources() {
+    let bad = grain::ProgramFile::read(b"nothing", &Limits::new()).unwrap_err();
+    let load = LoadError::from(bad);
+    assert!(load.source().is_some_and(|source| source.is::<FileError>()));
+    let wrong = WrongType {
+        wanted: "i64",
+        found: "bool",
+    };
+    let run = RunError::from(wrong);
+    assert!(run.source().is_some_and(|source| source.is::<WrongType>()));
+    assert_eq!(run.to_string(), "expected i64, found bool");
+    let thrown = HostError::from(wrong);
+    assert_eq!(thrown.to_string(), run.to_string());
+    assert!(matches!(thrown, HostError::Throw(_)));
+    assert!(matches!(HostError::from(run), HostError::Fail(_)));
+    assert!(RunError::Stopped.source().is_none() && LoadError::TooMuchWork.source().is_none());
+}
+
+#[test]
+fn threads_share_all_but_states() {
+    fn is_shared<T: Send + Sync + 'static>() {}
+    is_shared::<(Engine, Script, Bounds, Interrupt, Value)>();
+    is_shared::<(CompileError, LoadError, RunError, HostError, WrongType)>();
+}
