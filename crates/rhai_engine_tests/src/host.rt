@@ -2,8 +2,8 @@
 
 use grain_machine::prepare;
 use rhai_compile::{Options, compile};
-use rhai_engine::{Bounds, Event, State};
-use rhai_values::Value;
+use rhai_engine::{BeginError, Bounds, Event, State};
+use rhai_values::{Cause, Value};
 use std::alloc::{AllocError, Global};
 use std::process::Abort;
 use std::sync::Arc;
@@ -42,6 +42,45 @@ pub fn number(value: Option<&Value>) -> i64 {
         Some(Value::Int(x)) => *x,
         _ => -1,
     }
+}
+
+/// Whether a run of the top level begins. It has no clause, like all calls here: so a test doesn't carry what they ensure.
+pub fn begins(state: &mut State) -> bool {
+    state.begin().is_ok()
+}
+
+/// Why no run of a function begins that gets an integer.
+pub fn begin_error(
+    alloc: Global,
+    state: &mut State,
+    name: &str,
+    x: i64,
+) -> Result<Option<BeginError>, AllocError> {
+    let arguments = vec![in alloc; Value::Int(x)]?;
+    match state.begin_call(name, arguments) {
+        Ok(()) => Ok(None),
+        Err(error) => Ok(Some(error)),
+    }
+}
+
+/// Sets a variable.
+pub fn set(state: &mut State, name: &str, x: i64) -> Result<(), Fail> {
+    match state.set_variable(name, Value::Int(x)) {
+        Ok(()) => Ok(()),
+        Err(_) => Err(Fail::new("the variable isn't set")),
+    }
+}
+
+/// Answers the call for which the run waits, and what the run returns then.
+pub fn answered(state: &mut State, x: i64) -> i64 {
+    let _paused = state.answer(Value::Int(x));
+    returned(state)
+}
+
+/// As [`answered`], but the call fails by this cause.
+pub fn failed(state: &mut State, cause: Cause) -> i64 {
+    let _paused = state.fail(cause);
+    returned(state)
 }
 
 /// What the last run returns, if that is an integer: -1 of any other value, -2 if it pauses or waits, and -3 if it fails.

@@ -1,9 +1,11 @@
 //! Functions of the host, and what scripts print.
 
-use crate::host::{FUEL, called, made, number, returned, state_of};
+use crate::host::{
+    answered, begin_error, begins, called, failed, made, number, returned, state_of,
+};
 use rhai_engine::{BeginError, Bounds, Event, State};
 use rhai_values::{Cause, SizeLimits, Value};
-use std::alloc::Global;
+use std::alloc::{AllocError, Global};
 use std::test::Fail;
 
 const ASKING: &str = "
@@ -18,7 +20,7 @@ const ASKING: &str = "
 fn asking(alloc: Global, source: &str, bounds: Bounds) -> Result<State, Fail> {
     let mut state = state_of(alloc, source, bounds)?;
     state.register("ask", 1)?;
-    if state.begin().is_err() || returned(&mut state) != -2 {
+    if !begins(&mut state) || returned(&mut state) != -2 {
         return Err(Fail::new("the run doesn't wait"));
     }
     Ok(state)
@@ -40,6 +42,13 @@ fn is_too_large(event: &Event) -> bool {
     }
 }
 
+/// Whether an answer that is too large ends the run.
+fn is_refused_for_its_size(alloc: Global, state: &mut State) -> Result<bool, AllocError> {
+    let long = "a text of more than fifty characters, which no limit of fifty allows";
+    let value = Value::text(alloc, String::from_str(alloc, long)?)?;
+    Ok(is_too_large(&state.answer(value)))
+}
+
 /// The arguments of three calls, of which the first is answered, the second throws and the third returns a value that is too large; and
 /// whether the run fails by that.
 fn answers(alloc: Global) -> Result<([i64; 3], bool), Fail> {
@@ -49,16 +58,14 @@ fn answers(alloc: Global) -> Result<([i64; 3], bool), Fail> {
     };
     let mut state = asking(alloc, ASKING, bounds)?;
     let first = argument(&state);
-    let _paused = state.answer(Value::Int(5));
-    let _calls = state.resume(FUEL);
+    let _waits = answered(&mut state, 5);
     let second = argument(&state);
-    let _paused = state.fail(Cause::Thrown(Value::Int(7)));
-    let _calls = state.resume(FUEL);
+    let _waits = failed(&mut state, Cause::Thrown(Value::Int(7)));
     let third = argument(&state);
-    let long = "a text of more than fifty characters, which no limit of fifty allows";
-    let value = Value::text(alloc, String::from_str(alloc, long)?)?;
-    let ended = is_too_large(&state.answer(value));
-    Ok(([first, second, third], ended))
+    Ok((
+        [first, second, third],
+        is_refused_for_its_size(alloc, &mut state)?,
+    ))
 }
 
 #[test]
@@ -76,20 +83,17 @@ fn nested(alloc: Global) -> Result<[i64; 4], Fail> {
     let doubled = called(alloc, &mut state, "double", 21)?;
     // A nested run of `outer` waits for a call of its own, and no third run begins.
     let waits = called(alloc, &mut state, "outer", 3)?;
-    let refused = match state.begin_call("double", vec![in alloc; Value::Int(1)]?) {
-        Err(BeginError::TooManyRuns) => argument(&state),
+    let refused = match begin_error(alloc, &mut state, "double", 1)? {
+        Some(BeginError::TooManyRuns) => argument(&state),
         _ => -5,
     };
-    let _paused = state.answer(Value::Int(10));
-    let _calls = state.resume(FUEL);
+    let _waits = answered(&mut state, 10);
     let _failed = state.fail(Cause::World(String::new(alloc)));
     // The run of the top level waits for its first call again.
-    let _paused = state.answer(Value::Int(argument(&state)));
-    let _calls = state.resume(FUEL);
-    let _paused = state.answer(Value::Int(2));
-    let _calls = state.resume(FUEL);
-    let _paused = state.answer(Value::Int(3));
-    Ok([doubled, waits, refused, returned(&mut state)])
+    let first = argument(&state);
+    let _waits = answered(&mut state, first);
+    let _waits = answered(&mut state, 2);
+    Ok([doubled, waits, refused, answered(&mut state, 3)])
 }
 
 #[test]
@@ -104,8 +108,7 @@ fn receiver(alloc: Global) -> Result<i64, Fail> {
     if old != 3 {
         return Err(Fail::new("the receiver is another one"));
     }
-    let _paused = state.answer(Value::Unit);
-    Ok(returned(&mut state))
+    Ok(answered(&mut state, 0))
 }
 
 #[test]
@@ -121,7 +124,7 @@ fn printed(alloc: Global) -> Result<(String, i64), Fail> {
     };
     let source = "try { for i in 1..9 { print(i * 100); } } catch { }";
     let mut state = state_of(alloc, source, bounds)?;
-    if state.begin().is_err() {
+    if !begins(&mut state) {
         return Err(Fail::new("no run begins"));
     }
     let ended = returned(&mut state);

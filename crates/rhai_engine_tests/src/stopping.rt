@@ -1,6 +1,6 @@
 //! Runs in slices, and runs that are stopped.
 
-use crate::host::{FUEL, called, made, number, returned, state_of};
+use crate::host::{FUEL, begins, called, made, number, returned, set, state_of};
 use rhai_engine::{Bounds, Event, Status, VariableError};
 use rhai_values::Value;
 use std::alloc::Global;
@@ -14,7 +14,7 @@ const ADDING: &str = "
 /// What the script returns in slices of this fuel, and how many turns it makes.
 fn sliced(alloc: Global, fuel: u64) -> Result<(i64, u64), Fail> {
     let mut state = state_of(alloc, ADDING, Bounds::DEFAULT)?;
-    if state.begin().is_err() {
+    if !begins(&mut state) {
         return Err(Fail::new("no run begins"));
     }
     let mut turns = 0u64;
@@ -50,7 +50,8 @@ const HOLDING: &str = "
 fn stopped(alloc: Global) -> Result<[i64; 4], Fail> {
     let mut state = state_of(alloc, HOLDING, Bounds::DEFAULT)?;
     state.register("ask", 1)?;
-    if state.set_variable("held", Value::Int(4)).is_err() || state.begin().is_err() {
+    set(&mut state, "held", 4)?;
+    if !begins(&mut state) {
         return Err(Fail::new("no run begins"));
     }
     let waits = returned(&mut state);
@@ -74,7 +75,8 @@ fn reset(alloc: Global) -> Result<bool, Fail> {
     let mut state = state_of(alloc, HOLDING, Bounds::DEFAULT)?;
     state.register("ask", 1)?;
     let unknown = state.set_variable("nothing", Value::Unit);
-    if state.set_variable("held", Value::Int(4)).is_err() || state.begin().is_err() {
+    set(&mut state, "held", 4)?;
+    if !begins(&mut state) {
         return Err(Fail::new("no run begins"));
     }
     let waits = returned(&mut state);
@@ -84,7 +86,7 @@ fn reset(alloc: Global) -> Result<bool, Fail> {
             && unknown == Err(VariableError::NoName)
             && state.variable("held").is_none()
             && state.asked().is_none()
-            && state.begin().is_ok(),
+            && begins(&mut state),
     )
 }
 
