@@ -15,8 +15,12 @@ struct grain_state {
     room rows;
     room texts;
     room name;
+    size_t passed;     /* how many values of the host's own were passed and not yet shown as dropped */
     grain_event event; /* what grain_state_resume returned last, until another call changes what there is to show */
 };
+
+/* How many rows a value of the host's own has. */
+enum { FOREIGN_ROWS = 4 };
 
 /* What an empty list points to. It is aligned to each type of items, and nothing is read or written there. */
 static uint64_t nothing;
@@ -62,7 +66,7 @@ static grain_session *session_of(grain_state *state) {
 static grain_state *new_state(size_t memory) {
     grain_state *state = grain_alloc(sizeof *state, 16);
     if (state != NULL)
-        *state = (grain_state){{false, NULL}, new_budget(memory), {NULL, 0}, {NULL, 0}, {NULL, 0}, GRAIN_EVENT_IDLE};
+        *state = (grain_state){{false, NULL}, new_budget(memory), {NULL, 0}, {NULL, 0}, {NULL, 0}, 0, GRAIN_EVENT_IDLE};
     return state;
 }
 
@@ -103,12 +107,13 @@ grain_status grain_state_load(grain_state **state, const uint8_t *bytes, size_t 
                                             error != NULL ? error : &unread_error, report != NULL ? report : &unread_report));
 }
 
-grain_status grain_state_another(grain_state **other, grain_state *state) {
-    grain_state *made = new_state(state->budget.most);
+grain_status grain_state_another(grain_state **other, grain_state *state, const grain_bounds *bounds) {
+    const grain_bounds *some_bounds = bounds != NULL ? bounds : &usual_bounds;
+    grain_state *made = new_state(some_bounds->memory);
     *other = NULL;
     if (made == NULL)
         return GRAIN_OUT_OF_MEMORY;
-    return opened(other, made, grain_proved_session_another(session_of(made), &state->session));
+    return opened(other, made, grain_proved_session_another(session_of(made), &state->session, some_bounds));
 }
 
 grain_status grain_state_file(grain_state *state, grain_room *file) {
@@ -128,6 +133,13 @@ void grain_state_free(grain_state *state) {
 
 grain_status grain_state_register(grain_state *state, const char *name, size_t name_len, uint32_t parameters) {
     return (grain_status)grain_proved_session_register(session_of(state), some(name), name_len, parameters);
+}
+
+/* Counts the values of the host's own that a call has passed. */
+static uint32_t passed(grain_state *state, uint32_t status, const grain_values *values) {
+    for (size_t i = 0; status == GRAIN_ACCEPTED && i < values->rows_len; i++)
+        state->passed += values->rows[i].tag == GRAIN_VALUE_FOREIGN;
+    return status;
 }
 
 /* A call that was accepted has changed what there is to show. */
@@ -156,16 +168,31 @@ static grain_status show(grain_state *state, grain_values *values) {
 }
 
 grain_status grain_state_set(grain_state *state, const char *name, size_t name_len, const grain_values *value) {
-    return (grain_status)grain_proved_session_set(session_of(state), some(name), name_len, some(value->rows), value->rows_len,
-                                                  some(value->texts), value->texts_len);
+    uint32_t status = grain_proved_session_set(session_of(state), some(name), name_len, some(value->rows), value->rows_len,
+                                               some(value->texts), value->texts_len);
+    return (grain_status)passed(state, status, value);
 }
 
 grain_status grain_state_get(grain_state *state, const char *name, size_t name_len, grain_values *value) {
     uint32_t status = grain_proved_session_get(session_of(state), some(name), name_len);
-    /* The variable is shown in place of what was returned; arguments are shown again. */
-    if (state->event == GRAIN_EVENT_RETURNED)
+    /* The variable is shown in place of what was returned or thrown; arguments are shown again. */
+    if (state->event != GRAIN_EVENT_CALLS)
         state->event = GRAIN_EVENT_IDLE;
     return status == GRAIN_ACCEPTED ? show(state, value) : (grain_status)status;
+}
+
+grain_status grain_state_dropped(grain_state *state, grain_values *values) {
+    /* The session forgets what it shows, so there must be room for all before. */
+    use_budget(&state->budget);
+    if (!grow(&state->rows, state->passed * FOREIGN_ROWS * sizeof(grain_value)))
+        return GRAIN_OUT_OF_MEMORY;
+    uint32_t status = grain_proved_session_dropped(session_of(state));
+    if (state->event != GRAIN_EVENT_CALLS)
+        state->event = GRAIN_EVENT_IDLE;
+    grain_status shown = status == GRAIN_ACCEPTED ? show(state, values) : (grain_status)status;
+    if (shown == GRAIN_ACCEPTED)
+        state->passed -= values->count;
+    return shown;
 }
 
 void grain_state_reset(grain_state *state) {
@@ -175,8 +202,9 @@ void grain_state_reset(grain_state *state) {
 
 grain_status grain_state_begin(grain_state *state, const char *name, size_t name_len, const grain_values *arguments) {
     const grain_values *values = arguments != NULL ? arguments : &no_values;
-    return changed(state, grain_proved_session_begin(session_of(state), name != NULL, some(name), name_len, some(values->rows),
-                                                     values->rows_len, some(values->texts), values->texts_len, values->count));
+    uint32_t status = grain_proved_session_begin(session_of(state), name != NULL, some(name), name_len, some(values->rows),
+                                                 values->rows_len, some(values->texts), values->texts_len, values->count);
+    return changed(state, passed(state, status, values));
 }
 
 grain_event grain_state_resume(grain_state *state, uint64_t turns, uint64_t *used) {
@@ -185,17 +213,28 @@ grain_event grain_state_resume(grain_state *state, uint64_t turns, uint64_t *use
     return state->event;
 }
 
-/* Shows the value that a run returned. Another run may wait for the host already, whose call isn't shown. */
-static grain_status show_returned(grain_state *state, grain_asked *asked) {
+/* Shows the value that a run returned or threw. Another run may wait for the host already, whose call isn't shown. */
+static grain_status show_ended(grain_state *state, grain_asked *asked) {
     grain_status status = show(state, &asked->values);
     asked->name = (const char *)&nothing;
     asked->name_len = 0;
     return status == GRAIN_ACCEPTED && asked->values.count == 0 ? GRAIN_BAD_VALUE : status;
 }
 
+grain_status grain_state_failure(grain_state *state, grain_failure *failure) {
+    return (grain_status)grain_proved_session_failure(session_of(state), failure);
+}
+
+/* Whether the last run has just ended by a value that the script threw. */
+static bool has_thrown(grain_state *state) {
+    grain_failure failure;
+    return state->event == GRAIN_EVENT_FAULTED && grain_proved_session_failure(session_of(state), &failure) == GRAIN_ACCEPTED &&
+           failure.kind == GRAIN_FAULT_THROWN;
+}
+
 grain_status grain_state_asked(grain_state *state, grain_asked *asked) {
-    if (state->event == GRAIN_EVENT_RETURNED)
-        return show_returned(state, asked);
+    if (state->event == GRAIN_EVENT_RETURNED || has_thrown(state))
+        return show_ended(state, asked);
     if (state->event != GRAIN_EVENT_CALLS)
         return GRAIN_NOT_NOW;
     uint32_t status = grain_proved_session_asked(session_of(state));
@@ -213,18 +252,23 @@ grain_status grain_state_asked(grain_state *state, grain_asked *asked) {
 }
 
 grain_status grain_state_receiver(grain_state *state, const grain_values *value) {
-    return (grain_status)grain_proved_session_receiver(session_of(state), some(value->rows), value->rows_len, some(value->texts),
-                                                       value->texts_len);
+    uint32_t status = grain_proved_session_receiver(session_of(state), some(value->rows), value->rows_len, some(value->texts),
+                                                    value->texts_len);
+    return (grain_status)passed(state, status, value);
+}
+
+static grain_status answer_with(grain_state *state, bool is_thrown, const grain_values *value) {
+    uint32_t status = grain_proved_session_answer(session_of(state), is_thrown, some(value->rows), value->rows_len,
+                                                  some(value->texts), value->texts_len);
+    return changed(state, passed(state, status, value));
 }
 
 grain_status grain_state_answer(grain_state *state, const grain_values *value) {
-    return changed(state, grain_proved_session_answer(session_of(state), false, some(value->rows), value->rows_len,
-                                                      some(value->texts), value->texts_len));
+    return answer_with(state, false, value);
 }
 
 grain_status grain_state_throw(grain_state *state, const grain_values *value) {
-    return changed(state, grain_proved_session_answer(session_of(state), true, some(value->rows), value->rows_len,
-                                                      some(value->texts), value->texts_len));
+    return answer_with(state, true, value);
 }
 
 grain_status grain_state_fail(grain_state *state, const char *why, size_t why_len) {

@@ -25,6 +25,13 @@ class Values {
     Values &add(std::int64_t number) { return add_row(grain_integer(number)); }
     Values &add_bool(bool value) { return add_row(grain_bool(value)); }
     Values &add_unit() { return add_row(grain_unit()); }
+    Values &add_foreign(std::int64_t kind, std::int64_t number) {
+        grain_value rows[4];
+        grain_foreign(rows, kind, number);
+        rows_.insert(rows_.end(), rows, rows + 4);
+        count_++;
+        return *this;
+    }
     Values &add_text(const std::string &text) {
         add_row(grain_text(static_cast<std::int64_t>(texts_.size()), static_cast<std::uint32_t>(text.size())));
         texts_.insert(texts_.end(), text.begin(), text.end());
@@ -72,6 +79,15 @@ class RunError : public std::runtime_error {
 
   private:
     bool is_paused_;
+};
+
+// A run has failed. If the script threw a value without closures' variables in it, that is `thrown`; otherwise it has no values.
+class Fault : public RunError {
+  public:
+    Fault(const std::string &why, const grain_failure &failure, const Values &thrown)
+        : RunError(why), failure(failure), thrown(thrown) {}
+    grain_failure failure;
+    Values thrown;
 };
 
 // A function of the host throws it to throw a value that the script may catch.
@@ -129,7 +145,7 @@ class State {
             case GRAIN_EVENT_RETURNED: return Values(asked().values);
             case GRAIN_EVENT_CALLS: serve_or_stop(); break;
             case GRAIN_EVENT_PAUSED: throw RunError("the turns are used up", true);
-            case GRAIN_EVENT_FAULTED: throw RunError(fault());
+            case GRAIN_EVENT_FAULTED: throw fault();
             case GRAIN_EVENT_OUT_OF_MEMORY: throw std::bad_alloc();
             case GRAIN_EVENT_IDLE: throw RunError("no run is under way");
             }
@@ -138,6 +154,13 @@ class State {
 
     void stop() { grain_state_stop(state_); }
     void reset() { grain_state_reset(state_); }
+
+    // The values of the host's own of which no copy is left, four rows each.
+    Values dropped() {
+        grain_values values = grain_values();
+        check(grain_state_dropped(state_, &values));
+        return Values(values);
+    }
 
     // What was printed since it was last taken.
     std::string take_printed() {
@@ -158,7 +181,15 @@ class State {
         write(state_, text.data(), text.size());
         return text.data();
     }
-    std::string fault() { return text_by(grain_state_fault); }
+    // Why the last run has just failed.
+    Fault fault() {
+        grain_failure failure = grain_failure();
+        check(grain_state_failure(state_, &failure));
+        grain_asked shown = grain_asked();
+        const bool has_thrown = grain_state_asked(state_, &shown) == GRAIN_ACCEPTED;
+        const Values thrown = has_thrown ? Values(shown.values) : Values();
+        return Fault(text_by(grain_state_fault), failure, thrown);
+    }
     grain_asked asked() {
         grain_asked shown = grain_asked();
         check(grain_state_asked(state_, &shown));

@@ -131,13 +131,14 @@ static void use_variable(grain_state *state, input *from) {
 static void call(grain_state *state, input *from) {
     grain_asked asked;
     char text[16];
-    switch (byte_of(from) % 9) {
+    switch (byte_of(from) % 10) {
     case 0: REQUIRE(is_one_of(grain_state_begin(state, NULL, 0, NULL), GRAIN_NOT_NOW, GRAIN_NOT_NOW)); break;
     case 1:
     case 2: begin(state, from); break;
     case 3: go(state, from); break;
     case 4: end_call(state, from); break;
     case 5: use_variable(state, from); break;
+    case 9: REQUIRE(is_one_of(grain_state_dropped(state, &asked.values), GRAIN_ACCEPTED, GRAIN_ACCEPTED)); break;
     case 6: REQUIRE(is_one_of(grain_state_asked(state, &asked), GRAIN_NOT_NOW, GRAIN_NOT_NOW)); break;
     case 7:
         grain_state_stop(state);

@@ -16,8 +16,9 @@
  * Values cross by copy, as rows (grain_value of grain.h). What the host passes stays the host's. What it is shown stays until
  * the next call with the same state. There is nothing to free but states.
  *
- * A state and those made of it by grain_state_another stay on the thread that made them. The other rules of grain.h hold. Memory
- * is taken by grain_alloc, as much as grain_bounds allows. A refused allocation is a result, and ends at most the run. */
+ * One thread at a time may use a state, for calls that read it too. Different threads may use states that share a program. The
+ * other rules of grain.h hold. Memory is taken by grain_alloc, as much as grain_bounds allows. A refused allocation is a result,
+ * and ends at most the run. */
 #ifndef GRAIN_ENGINE_H
 #define GRAIN_ENGINE_H
 
@@ -77,6 +78,18 @@ static inline grain_value grain_text(int64_t from, uint32_t len) {
     return row;
 }
 
+/* The tag of a value of the host's own. Scripts pass it on and compare it, and can't make one. A range follows, from its kind to its
+ * number: the host knows what they mean. (Files use the tag for shared values, which no state has.) */
+#define GRAIN_VALUE_FOREIGN GRAIN_VALUE_SHARED
+
+/* Writes the rows of a value of the host's own. */
+static inline void grain_foreign(grain_value rows[4], int64_t kind, int64_t number) {
+    rows[0].tag = GRAIN_VALUE_FOREIGN, rows[0].count = 0, rows[0].number = 0;
+    rows[1].tag = GRAIN_VALUE_RANGE, rows[1].count = 0, rows[1].number = 0;
+    rows[2] = grain_integer(kind);
+    rows[3] = grain_integer(number);
+}
+
 /* ---- States ---- */
 
 /* Compiles a source text, and makes a state of it that has no variables. `bounds` may be NULL: GRAIN_BOUNDS_DEFAULT.
@@ -96,9 +109,10 @@ GRAIN_NODISCARD grain_status grain_state_load(grain_state **state, const uint8_t
                                               uint64_t limit, const grain_limits *limits, const grain_bounds *bounds,
                                               grain_read_error *error, grain_report *report);
 
-/* Makes another state of the same script, with the same bounds and without variables, functions of the host and runs. It shares
- * the program, so both must stay on one thread. GRAIN_OUT_OF_MEMORY: *other is NULL. */
-GRAIN_NODISCARD grain_status grain_state_another(grain_state **other, grain_state *state);
+/* Makes another state of the same script, without variables, functions of the host and runs. Both share the program, whose memory
+ * counts for the state that made it. `bounds` may be NULL: GRAIN_BOUNDS_DEFAULT. With all results but GRAIN_ACCEPTED *other is
+ * NULL: GRAIN_BAD_LIMIT, GRAIN_OUT_OF_MEMORY. */
+GRAIN_NODISCARD grain_status grain_state_another(grain_state **other, grain_state *state, const grain_bounds *bounds);
 
 /* Writes the program file of a state's script (FORMAT.md, "Program files"), which grain_state_load takes. GRAIN_SHORT: only
  * file->size is written, and there is less room. GRAIN_OUT_OF_MEMORY. */
@@ -113,11 +127,16 @@ void grain_state_free(grain_state *state);
 GRAIN_NODISCARD grain_status grain_state_register(grain_state *state, const char *name, size_t name_len, uint32_t parameters);
 
 /* Sets a variable that the script finds by its name, or shows its value until the next call with the state. Scripts see
- * variables that they don't declare themselves. GRAIN_NO_NAME: the script has no such name, or the variable has no value.
+ * variables that they don't declare themselves. grain_state_get also finds what the top level declared outside of blocks, as it was
+ * at the end of its last run. GRAIN_NO_NAME: the script has no such name, or the variable has no value.
  * GRAIN_BAD_VALUE: the rows are not one value within the bounds. GRAIN_OUT_OF_MEMORY. With all but GRAIN_ACCEPTED nothing has
  * changed. */
 GRAIN_NODISCARD grain_status grain_state_set(grain_state *state, const char *name, size_t name_len, const grain_values *value);
 GRAIN_NODISCARD grain_status grain_state_get(grain_state *state, const char *name, size_t name_len, grain_values *value);
+
+/* Shows the values of the host's own of which the state has no copy left, each as often as it was passed, until the next call with
+ * the state. The state forgets them; until then it remembers them, in its memory. GRAIN_OUT_OF_MEMORY: it forgets none. */
+GRAIN_NODISCARD grain_status grain_state_dropped(grain_state *state, grain_values *values);
 
 /* Ends all runs, and drops all variables and what was printed. Functions of the host stay. */
 void grain_state_reset(grain_state *state);
@@ -140,7 +159,7 @@ typedef enum grain_event {
     GRAIN_EVENT_RETURNED = 1,     /* it has ended: grain_state_asked shows the value that it returned */
     GRAIN_EVENT_CALLS = 2,        /* it waits for the host: grain_state_asked shows the function and the arguments */
     GRAIN_EVENT_PAUSED = 3,       /* its turns are used up */
-    GRAIN_EVENT_FAULTED = 4,      /* it has ended by a fault: grain_state_fault */
+    GRAIN_EVENT_FAULTED = 4,      /* it has ended by a fault: grain_state_failure, grain_state_fault */
     GRAIN_EVENT_OUT_OF_MEMORY = 5 /* it has ended, since an allocation was refused */
 } grain_event;
 
@@ -151,15 +170,15 @@ GRAIN_NODISCARD grain_event grain_state_resume(grain_state *state, uint64_t turn
 
 /* What the last call of grain_state_resume has for the host. */
 typedef struct grain_asked {
-    const char *name; /* of the function, in UTF-8 and not ended by 0; empty after GRAIN_EVENT_RETURNED */
+    const char *name; /* of the function, in UTF-8 and not ended by 0; empty unless a function is called */
     size_t name_len;
-    grain_values values; /* the arguments, or the value that was returned */
+    grain_values values; /* the arguments, or the value that was returned or thrown */
 } grain_asked;
 
-/* Shows what the last run asks or has returned, until the next call with the state. If a run has ended while another one waits for
- * the host, grain_state_resume has the call of that one again, and takes no turn.
+/* Shows what the last run asks, returned or threw, until the next call with the state. If a run has ended while another one waits
+ * for the host, grain_state_resume has the call of that one again, and takes no turn.
  *
- * GRAIN_NOT_NOW: nothing is asked or returned, or the state was changed since. GRAIN_BAD_VALUE: a value has no rows, since closures
+ * GRAIN_NOT_NOW: nothing is asked, returned or thrown, or the state was changed since. GRAIN_BAD_VALUE: a value has no rows, since closures
  * share it. GRAIN_OUT_OF_MEMORY. */
 GRAIN_NODISCARD grain_status grain_state_asked(grain_state *state, grain_asked *asked);
 
@@ -179,6 +198,35 @@ GRAIN_NODISCARD grain_status grain_state_fail(grain_state *state, const char *wh
 
 /* Ends the last run, whatever it waits for. Variables stay. */
 void grain_state_stop(grain_state *state);
+
+/* Of which kind a fault is. No script catches the last three. */
+typedef enum grain_fault_kind {
+    GRAIN_FAULT_THROWN = 1,           /* the script threw a value, which grain_state_asked shows */
+    GRAIN_FAULT_NO_VARIABLE = 2,      /* no variable has the name */
+    GRAIN_FAULT_NO_FUNCTION = 3,      /* no function has the name and takes such arguments */
+    GRAIN_FAULT_NO_PROPERTY = 4,      /* a value has no such property */
+    GRAIN_FAULT_WRONG_TYPE = 5,       /* a value is of another type */
+    GRAIN_FAULT_OVERFLOW = 6,         /* a result doesn't fit 64 bits */
+    GRAIN_FAULT_DIVISION_BY_ZERO = 7, /* a divisor is zero */
+    GRAIN_FAULT_OUT_OF_BOUNDS = 8,    /* no item has the index */
+    GRAIN_FAULT_NO_THIS = 9,          /* `this` is used in a function that wasn't called on a value */
+    GRAIN_FAULT_UNSUPPORTED = 10,     /* the engine doesn't do the operation */
+    GRAIN_FAULT_TOO_DEEP = 11,        /* the bound on calls was reached */
+    GRAIN_FAULT_TOO_LARGE = 12,       /* a value isn't within the bounds */
+    GRAIN_FAULT_HOST = 13             /* the host failed the call, or too much was printed */
+} grain_fault_kind;
+
+/* Why and where a run failed. */
+typedef struct grain_failure {
+    uint32_t kind;    /* grain_fault_kind */
+    uint32_t line;    /* counted from 1; 0: it isn't known */
+    uint32_t column;  /* counted from 1; 0: it isn't known */
+    size_t at;        /* the address of the operation in the program's code */
+} grain_failure;
+
+/* Writes why and where the last run that failed did. It stays until another fails, or the state is reset. GRAIN_NOT_NOW: none has
+ * failed. */
+GRAIN_NODISCARD grain_status grain_state_failure(grain_state *state, grain_failure *failure);
 
 /* Writes the last fault and the calls that it ended, a line each, as snprintf does: as much as there is room for, ended by 0 unless
  * size is 0. Returns how long the text is; 0: there was none. */

@@ -23,7 +23,7 @@ uint32_t grain_proved_session_compile(grain_session *session, const uint8_t *sou
 uint32_t grain_proved_session_load(grain_session *session, const uint8_t *bytes, size_t bytes_len, uint16_t host, uint64_t work,
                                    const grain_limits *limits, const grain_bounds *bounds, grain_read_error *error,
                                    grain_report *report);
-uint32_t grain_proved_session_another(grain_session *session, grain_session *from);
+uint32_t grain_proved_session_another(grain_session *session, grain_session *from, const grain_bounds *bounds);
 uint32_t grain_proved_session_file(grain_session *session, uint8_t *file, size_t file_len, size_t *size);
 void grain_proved_session_free(grain_session *session);
 uint32_t grain_proved_session_register(grain_session *session, const uint8_t *name, size_t name_len, uint32_t parameters);
@@ -42,9 +42,11 @@ uint32_t grain_proved_session_fail(grain_session *session, const uint8_t *why, s
 void grain_proved_session_stop(grain_session *session);
 void grain_proved_session_reset(grain_session *session);
 uint32_t grain_proved_session_asked(grain_session *session);
+uint32_t grain_proved_session_dropped(grain_session *session);
 uint32_t grain_proved_session_values(grain_session *session, grain_value *rows, size_t rows_len, uint8_t *texts,
                                      size_t texts_len, grain_sizes *sizes);
 size_t grain_proved_session_name(grain_session *session, uint8_t *text, size_t text_len);
+uint32_t grain_proved_session_failure(grain_session *session, grain_failure *failure);
 size_t grain_proved_session_fault(grain_session *session, uint8_t *text, size_t text_len);
 size_t grain_proved_session_printed(grain_session *session, uint8_t *text, size_t text_len);
 void grain_proved_session_take_printed(grain_session *session);

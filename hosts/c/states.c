@@ -133,11 +133,34 @@ static bool faults_with(grain_state *state, const char *text) {
     return strstr(fault, text) != NULL;
 }
 
+/* Whether the last fault is of this kind, in this line. */
+static bool is_failure(grain_state *state, uint32_t kind, uint32_t line, uint32_t column) {
+    grain_failure failure = {0, 0, 0, 0};
+    return grain_state_failure(state, &failure) == GRAIN_ACCEPTED && failure.kind == kind && failure.line == line &&
+           failure.column == column && failure.at > 0;
+}
+
+/* What a function throws that has no handler is shown. */
+static void try_thrown(grain_state *state) {
+    grain_value rows[] = {{GRAIN_VALUE_ARRAY, 1, 0}, grain_integer(5)};
+    grain_values value = {rows, 2, NULL, 0, 1};
+    grain_asked asked;
+    CHECK(begin(state, "uncaught", NULL) == GRAIN_ACCEPTED && grain_state_resume(state, 1000, NULL) == GRAIN_EVENT_CALLS);
+    CHECK(grain_state_throw(state, &value) == GRAIN_ACCEPTED && grain_state_asked(state, &asked) == GRAIN_NOT_NOW);
+    CHECK(grain_state_resume(state, 1000, NULL) == GRAIN_EVENT_FAULTED && is_failure(state, GRAIN_FAULT_THROWN, 4, 17));
+    CHECK(grain_state_asked(state, &asked) == GRAIN_ACCEPTED && asked.name_len == 0 && asked.values.count == 1);
+    CHECK(asked.values.rows_len == 2 && asked.values.rows[0].tag == GRAIN_VALUE_ARRAY && asked.values.rows[1].number == 5);
+}
+
 static void try_faults(grain_state *state) {
     grain_value row = grain_integer(0), thrown = grain_integer(7);
     grain_values argument = one(&row, NULL), value = one(&thrown, NULL);
+    grain_asked asked;
     CHECK(begin(state, "divide", &argument) == GRAIN_ACCEPTED && faults_with(state, "(line 13, position 5)"));
+    CHECK(is_failure(state, GRAIN_FAULT_DIVISION_BY_ZERO, 13, 5) && grain_state_asked(state, &asked) == GRAIN_NOT_NOW);
     CHECK(begin(state, "deep", &argument) == GRAIN_ACCEPTED && faults_with(state, "called from deep:6:"));
+    CHECK(is_failure(state, GRAIN_FAULT_TOO_DEEP, 6, 14));
+    try_thrown(state);
     CHECK(begin(state, "caught", &argument) == GRAIN_ACCEPTED && grain_state_resume(state, 1000, NULL) == GRAIN_EVENT_CALLS);
     CHECK(grain_state_throw(state, &value) == GRAIN_ACCEPTED && is_returned(state, 7));
     CHECK(begin(state, "uncaught", NULL) == GRAIN_ACCEPTED && grain_state_resume(state, 1000, NULL) == GRAIN_EVENT_CALLS);
@@ -168,6 +191,22 @@ static void try_values(grain_state *state) {
     CHECK(grain_state_resume(state, 1, NULL) == GRAIN_EVENT_IDLE);
 }
 
+/* A value of the host's own is in use until a variable has another value. */
+static void try_foreign(grain_state *state) {
+    grain_value rows[4], other = grain_unit();
+    grain_foreign(rows, 3, -17);
+    grain_values value = {rows, 4, NULL, 0, 1}, cut = {rows, 3, NULL, 0, 1}, unit = one(&other, NULL), found;
+    CHECK(grain_state_set(state, "absent", 6, &value) == GRAIN_NO_NAME && grain_state_set(state, "shown", 5, &cut) == GRAIN_BAD_VALUE);
+    CHECK(grain_state_set(state, "shown", 5, &value) == GRAIN_ACCEPTED);
+    CHECK(begin(state, "same", &value) == GRAIN_ACCEPTED && grain_state_resume(state, 1000, NULL) == GRAIN_EVENT_RETURNED);
+    CHECK(grain_state_dropped(state, &found) == GRAIN_ACCEPTED && found.count == 1 && found.rows_len == 4);
+    CHECK(memcmp(found.rows, rows, sizeof rows) == 0 && found.rows[0].tag == GRAIN_VALUE_FOREIGN);
+    CHECK(grain_state_dropped(state, &found) == GRAIN_ACCEPTED && found.count == 0);
+    CHECK(grain_state_set(state, "shown", 5, &unit) == GRAIN_ACCEPTED);
+    CHECK(grain_state_dropped(state, &found) == GRAIN_ACCEPTED && found.count == 1 && found.rows[3].number == -17);
+    grain_state_reset(state);
+}
+
 static void try_variables(grain_state *state) {
     grain_value row = grain_integer(5);
     grain_values value = one(&row, NULL), found;
@@ -184,6 +223,8 @@ static void try_variables(grain_state *state) {
         CHECK(begin(state, "say", NULL) == GRAIN_ACCEPTED && is_returned(state, 1));
     CHECK(begin(state, "say", NULL) == GRAIN_ACCEPTED && faults_with(state, "Too much output"));
     grain_state_reset(state);
+    grain_failure failure;
+    CHECK(grain_state_failure(state, &failure) == GRAIN_NOT_NOW);
     CHECK(grain_state_get(state, "shown", 5, &found) == GRAIN_NO_NAME && grain_state_printed(state, NULL, 0) == 0);
 }
 
@@ -196,7 +237,7 @@ static void try_files(grain_state *state) {
     file = (grain_room){bytes, sizeof bytes, 0};
     CHECK(grain_state_file(state, &file) == GRAIN_ACCEPTED);
     CHECK(grain_state_load(&loaded, bytes, file.size, GRAIN_CAP_ALL, GRAIN_NO_LIMIT, NULL, NULL, NULL, NULL) == GRAIN_ACCEPTED);
-    CHECK(grain_state_another(&another, loaded) == GRAIN_ACCEPTED);
+    CHECK(grain_state_another(&another, loaded, NULL) == GRAIN_ACCEPTED);
     CHECK(begin(another, "say", NULL) == GRAIN_ACCEPTED && is_returned(another, 1) && grain_state_printed(loaded, NULL, 0) == 0);
     grain_state_free(loaded);
     CHECK(begin(another, "say", NULL) == GRAIN_ACCEPTED && is_returned(another, 1));
@@ -217,7 +258,7 @@ static void try_memory(void) {
     CHECK(grain_state_compile(&state, text, sizeof text - 1, &bounds, NULL, 0) == GRAIN_OUT_OF_MEMORY && state == NULL);
     bounds.memory = 1 << 20;
     CHECK(grain_state_compile(&state, text, sizeof text - 1, &bounds, NULL, 0) == GRAIN_ACCEPTED);
-    CHECK(grain_state_another(&other, state) == GRAIN_ACCEPTED);
+    CHECK(grain_state_another(&other, state, &bounds) == GRAIN_ACCEPTED);
     size_t before = grain_state_memory(state), fewer = grain_state_memory(other);
     CHECK(before > 0 && fewer < before);
     for (int i = 0; i < 2; i++) {
@@ -279,6 +320,7 @@ int main(void) {
     try_runs(state);
     try_faults(state);
     try_values(state);
+    try_foreign(state);
     try_variables(state);
     try_files(state);
     grain_state_free(state);

@@ -36,7 +36,7 @@ no_program = record {
 
 -- the content of a handle that keeps nothing, which no call reads
 abbrev pub no_session : the_row.Denot
-no_session = shown_of (idle no_program 0 0) None [] [] 0 []
+no_session = shown_of (idle no_program 0 0) None [] [] 0 [] None
 
 -- the heap, which is one value
 abbrev pub the_heap : Global

@@ -1,3 +1,4 @@
--- what handles keep, and what is said by number
+-- what handles keep, files that are written, and what is said by number
+pub mod Files
 pub mod Holds
 pub mod Numbers

@@ -2,7 +2,7 @@
 ghost use Rattle.std.specs.Prelude.{◌≡◌, ◌≢◌, ◌≤◌, ◌↔◌, true, false};
 ghost use Rattle.rhai_engine.specs.Session.{BeginsFunction, KeepsProgram, idle, with_run};
 ghost use Rattle.rhai_runtime.specs.Named.{LacksFunction};
-ghost use Rattle.rhai_session.specs.Shown.{EndsCall, IsResumed, WaitsForHost};
+ghost use Rattle.rhai_session.specs.Shown.{EndsCall, IsResumed, IsStoppedOnce, WaitsForHost};
 ghost use Rattle.rhai_session.specs.declared.event.HostEvent.{HostEvent};
 ghost use Rattle.grain_engine_c.specs.Numbers.{event_number};
 
@@ -103,8 +103,7 @@ pub extern "C" fn grain_proved_session_answer(
         → session.new.content ≡ session.old.content }
     ensures asked { session.old.made ≡ true
         → (result ≡ NOT_NOW) ↔ (WaitsForHost session.old.content → ⊥) }
-    ensures ended { result ≡ ACCEPTED → EndsCall
-        session.old.content.state session.new.content.state session.new.content.ended }
+    ensures ended { result ≡ ACCEPTED → EndsCall session.old.content session.new.content }
     ensures keeps { session.old.made ≡ true
         → KeepsProgram session.old.content.state session.new.content.state }
 {
@@ -157,8 +156,7 @@ pub extern "C" fn grain_proved_session_fail(
         → session.new.content ≡ session.old.content }
     ensures asked { session.old.made ≡ true
         → (result ≡ NOT_NOW) ↔ (WaitsForHost session.old.content → ⊥) }
-    ensures ended { result ≡ ACCEPTED → EndsCall
-        session.old.content.state session.new.content.state session.new.content.ended }
+    ensures ended { result ≡ ACCEPTED → EndsCall session.old.content session.new.content }
     ensures keeps { session.old.made ≡ true
         → KeepsProgram session.old.content.state session.new.content.state }
 {
@@ -174,6 +172,8 @@ pub extern "C" fn grain_proved_session_fail(
 #[unsafe(no_mangle)]
 pub extern "C" fn grain_proved_session_stop(alloc: Global, session: &mut CSession)
     ensures made { session.new.made ≡ session.old.made }
+    ensures stopped { session.old.made ≡ true
+        → IsStoppedOnce session.old.content session.new.content }
     ensures keeps { session.old.made ≡ true
         → KeepsProgram session.old.content.state session.new.content.state }
 {

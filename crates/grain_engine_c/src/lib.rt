@@ -7,6 +7,7 @@
 
 mod calls;
 mod events;
+mod failures;
 mod handle;
 mod opening;
 mod records;
@@ -17,4 +18,4 @@ mod variables;
 pub use grain_flat::{CRefusal, CReport};
 pub use grain_flat_file::{CLimits, CReadError, CValue};
 pub use handle::CSession;
-pub use records::{CBounds, CSizes};
+pub use records::{CBounds, CFailure, CSizes};

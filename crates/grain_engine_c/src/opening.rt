@@ -1,9 +1,10 @@
 //! Sessions that are made and freed.
-ghost use Rattle.std.specs.Prelude.{◌≡◌, ◌≢◌, ◌<◌, ◌↔◌, None, [], true, false};
+ghost use Rattle.std.specs.Prelude.{◌≡◌, ◌≢◌, ◌<◌, ◌↔◌, ◌++◌, None, [], true, false, drop, length};
 ghost use Rattle.grain.specs.Program.{input_of};
 ghost use Rattle.grain_rules.specs.Accepted.{IsAccepted};
 ghost use Rattle.rhai_engine.specs.Session.{idle};
 ghost use Rattle.rhai_session.specs.Shown.{shown_of};
+ghost use Rattle.grain_engine_c.specs.Files.{IsWrittenFile};
 
 use crate::handle::CSession;
 use crate::records::{CBounds, bounds_of};
@@ -54,7 +55,7 @@ pub extern "C" fn grain_proved_session_compile(
     ensures accepted { result ≡ ACCEPTED → (session.new.made ≡ true)
         × IsAccepted (input_of session.new.content.state.program) }
     ensures new { result ≡ ACCEPTED → session.new.content ≡ shown_of
-        (idle session.new.content.state.program bounds.now.calls bounds.now.runs) None [] [] 0 [] }
+        (idle session.new.content.state.program bounds.now.calls bounds.now.runs) None [] [] 0 [] None }
     ensures refused { result ≢ ACCEPTED → session.new ≡ session.old }
 {
     if bounds.value_depth > MAX_DEPTH as usize {
@@ -128,7 +129,7 @@ pub extern "C" fn grain_proved_session_load(
     ensures accepted { result ≡ ACCEPTED → (session.new.made ≡ true)
         × IsAccepted (input_of session.new.content.state.program) }
     ensures new { result ≡ ACCEPTED → session.new.content ≡ shown_of
-        (idle session.new.content.state.program bounds.now.calls bounds.now.runs) None [] [] 0 [] }
+        (idle session.new.content.state.program bounds.now.calls bounds.now.runs) None [] [] 0 [] None }
     ensures refused { result ≢ ACCEPTED → session.new ≡ session.old }
 {
     if bounds.value_depth > MAX_DEPTH as usize {
@@ -146,34 +147,55 @@ pub extern "C" fn grain_proved_session_load(
     }
 }
 
-/// Has the handle keep another session of the program that `from` keeps one of.
+/// Has the handle keep another session of the program that `from` keeps one of. Both share the program.
 ///
 /// - 0: the handle keeps it. What it kept before is freed.
 /// - 3: the allocator refused.
+/// - 11: the bound on nesting is above 256. This is tested first.
 /// - 15: `from` keeps nothing.
 #[unsafe(no_mangle)]
 pub extern "C" fn grain_proved_session_another(
     alloc: Global,
     session: &mut CSession,
     from: &mut CSession,
+    bounds: &CBounds,
 ) -> u32
     ensures from { (from.new.made ≡ from.old.made)
         × (from.old.made ≡ true → from.new.content ≡ from.old.content) }
-    ensures empty { from.old.made ≡ false → result ≡ NOT_NOW }
+    ensures bound { (result ≡ BAD_LIMIT) ↔ (MAX_DEPTH < bounds.now.value_depth) }
+    ensures empty { from.old.made ≡ false → result ≢ ACCEPTED }
     ensures accepted { result ≡ ACCEPTED → (session.new.made ≡ true)
         × (session.new.content.state.program ≡ from.old.content.state.program) }
+    ensures new { result ≡ ACCEPTED → session.new.content ≡ shown_of
+        (idle session.new.content.state.program bounds.now.calls bounds.now.runs) None [] [] 0 [] None }
     ensures refused { result ≢ ACCEPTED → session.new ≡ session.old }
 {
+    if bounds.value_depth > MAX_DEPTH as usize {
+        return BAD_LIMIT;
+    }
     let Some(first) = from.take(alloc) else {
         return NOT_NOW;
     };
-    let made = first.another();
+    let made = first.another(bounds_of(bounds));
     from.keep(alloc, first);
     match made {
         Ok(made) => kept(alloc, session, made),
         Err(Cause::OutOfMemory) => OUT_OF_MEMORY,
         Err(_) => FOREIGN_CONSTANT,
     }
+}
+
+/// Copies all bytes to a list, if it has room for them.
+fn copied_whole(from: &[u8], to: &mut [u8]) -> u32
+    ensures copied { result ≡ ACCEPTED → to.new ≡ from.now ++ drop (length from.now) to.old }
+    ensures short { result ≢ ACCEPTED
+        → (result ≡ SHORT) × ((to.new ≡ to.old) × (length to.old < length from.now)) }
+{
+    if to.len() < from.len() {
+        return SHORT;
+    }
+    to[..from.len()].copy_from_slice(from);
+    ACCEPTED
 }
 
 /// Writes the program file of what the handle keeps, and its size.
@@ -193,6 +215,9 @@ pub extern "C" fn grain_proved_session_file(
     ensures made { session.new.made ≡ session.old.made }
     ensures empty { session.old.made ≡ false → result ≡ NOT_NOW }
     ensures kept { session.old.made ≡ true → session.new.content ≡ session.old.content }
+    ensures written { result ≡ ACCEPTED
+        → IsWrittenFile session.old.content.state.program file.old file.new size.new }
+    ensures short { result ≡ SHORT → (file.new ≡ file.old) × (length file.old < size.new) }
 {
     let Some(kept) = session.take(alloc) else {
         return NOT_NOW;
@@ -202,11 +227,7 @@ pub extern "C" fn grain_proved_session_file(
     match written {
         Ok(bytes) => {
             *size = bytes.len();
-            if file.len() < bytes.len() {
-                return SHORT;
-            }
-            file[..bytes.len()].copy_from_slice(&bytes);
-            ACCEPTED
+            copied_whole(&bytes, file)
         }
         Err(WriteError::OutOfMemory) => OUT_OF_MEMORY,
         Err(WriteError::Unkept(_)) => FOREIGN_CONSTANT,

@@ -22,6 +22,20 @@ pub struct CBounds {
     pub memory: usize,
 }
 
+/// Why and where a run failed.
+#[repr(C)]
+#[derive(Clone, Copy)]
+pub struct CFailure {
+    /// Of which kind the fault is (`crate::failures`).
+    pub kind: u32,
+    /// The line, from 1; 0: it isn't known.
+    pub line: u32,
+    /// The column, from 1; 0: it isn't known.
+    pub column: u32,
+    /// The address of the operation.
+    pub at: usize,
+}
+
 /// How much a session has to show.
 #[repr(C)]
 #[derive(Clone, Copy)]

@@ -51,6 +51,26 @@ pub extern "C" fn grain_proved_session_asked(alloc: Global, session: &mut CSessi
     status_of(shown)
 }
 
+/// Has a session show the values of the host's own of which no copy is left, each as often as it was passed. It forgets them.
+///
+/// - 0: they are shown.
+/// - 3: the allocator refused. None is forgotten.
+/// - 15: the handle keeps nothing.
+#[unsafe(no_mangle)]
+pub extern "C" fn grain_proved_session_dropped(alloc: Global, session: &mut CSession) -> u32
+    ensures made { session.new.made ≡ session.old.made }
+    ensures empty { session.old.made ≡ false → result ≡ NOT_NOW }
+    ensures state { session.old.made ≡ true
+        → session.new.content.state ≡ session.old.content.state }
+{
+    let Some(mut kept) = session.take(alloc) else {
+        return NOT_NOW;
+    };
+    let shown = kept.show_dropped();
+    session.keep(alloc, kept);
+    status_of(shown)
+}
+
 fn sizes_of(session: &Session) -> CSizes
     ensures rows { result.rows ≡ length session.now.rows }
     ensures texts { result.texts ≡ length session.now.texts }

@@ -1,7 +1,7 @@
 //! Values in flat form, written and read.
 
 use grain_flat_file::tags::{
-    ARRAY, BLOB, CHARACTER, FN_PTR, INTEGER, MAP, RANGE, SHARED, TEXT, TRUE, UNIT,
+    ARRAY, BLOB, CHARACTER, FN_PTR, HOST, INTEGER, MAP, RANGE, SHARED, TEXT, TRUE, UNIT,
 };
 use rhai_flat::{BadValue, CValue, FlatValues, MAX_DEPTH, read_values};
 use rhai_values::{Cause, Object, Pointer, SizeLimits, Value, are_equal};
@@ -134,7 +134,8 @@ fn single_rows_are_refused(rt: HostRuntime) -> Result<(), Fail> {
     let alloc = rt.alloc();
     let cases = [
         (row(INTEGER, 0, 5), None),
-        (row(SHARED, 0, 0), Some(BadValue::UnknownTag(SHARED))),
+        (row(SHARED, 0, 0), Some(BadValue::TooFewRows)),
+        (row(HOST, 0, 0), Some(BadValue::UnknownTag(HOST))),
         (row(u32::MAX, 0, 0), Some(BadValue::UnknownTag(u32::MAX))),
         (row(UNIT, 1, 0), Some(BadValue::UnusedField)),
         (row(TRUE, 0, 1), Some(BadValue::UnusedField)),

@@ -129,6 +129,8 @@ impl State {
         let chunk = main.chunk();
         let run = main.start(self.alloc)?;
         self.script.began();
+        // If memory lacks for their names, variables can't be read when the run has ended.
+        let _named = self.script.prepare_top(self.prepared.verified().program());
         self.last = Stage::Ready { chunk, run };
         Ok(())
     }
@@ -293,10 +295,14 @@ impl State {
         self.script.world_mut().clear();
     }
 
-    /// The value of the variable of this name, if it has one. A local variable of the top level has a slot, and isn't found.
+    /// The value of the variable of this name, if it has one. If scripts find none by the name, it is the value that a local variable
+    /// of the top level had at the end of its last run.
     #[must_use]
     pub fn variable(&self, name: &str) -> Option<&Value> {
-        self.script.named_variable(name)
+        match self.script.named_variable(name) {
+            Some(value) => Some(value),
+            None => self.script.top_variable(name),
+        }
     }
 
     /// Gives the variable of this name its value, also while a run is under way.

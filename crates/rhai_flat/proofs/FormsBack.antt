@@ -49,7 +49,8 @@ module _ (one : List CValue → List ℕ → Found Form) where
       (cond (eqb r.tag tags.RANGE_INCLUSIVE) (bounds_at range_inclusive rs ts)
       (cond (eqb r.tag tags.ARRAY) (found (forms_at r.count rs ts) (λ xs rest left. Some (array xs, rest, left)))
       (cond (eqb r.tag tags.MAP) (found (named_at r.count rs ts) (λ es rest left. Some (object_map es, rest, left)))
-      (cond (eqb r.tag tags.FN_PTR) (found (name_at rs ts) (λ name rs' ts'. found (forms_at r.count rs' ts') (λ xs rest left. Some (fn_ptr name xs, rest, left)))) None)))))))))))
+      (cond (eqb r.tag tags.FN_PTR) (found (name_at rs ts) (λ name rs' ts'. found (forms_at r.count rs' ts') (λ xs rest left. Some (fn_ptr name xs, rest, left))))
+      (cond (eqb r.tag tags.SHARED) (found (one rs ts) (λ x rest left. Some (shared x, rest, left))) None))))))))))))
 
 -- in which values are nested less deep than that
 pub form_at : ℕ → List CValue → List ℕ → Found Form
@@ -100,7 +101,10 @@ mutual
       ∙ form_at-row (suc n) (counted_row tags.FN_PTR k) (counted_row tags.TEXT (length name) ∷ (rows_of_forms xs ++ rs)) (name ++ (texts_of_forms xs ++ ts))
       ∙ ap (λ (f : Found (List ℕ)). found f (λ name' rs' ts'. found (forms_at (form_at (suc n)) k rs' ts') (λ ys rest left. Some (fn_ptr name' ys, rest, left)))) (name_back name (rows_of_forms xs ++ rs) (texts_of_forms xs ++ ts))
       ∙ ap (λ (f : Found Forms). found f (λ ys rest left. Some (fn_ptr name ys, rest, left))) (forms_back xs n rs ts (omega arith) p.1.1)
-  form_back (shared x) n rs ts le p = absurd (omega arith)
+  form_back (shared x) zero rs ts le p = absurd (omega arith)
+  form_back (shared x) (suc n) rs ts le p =
+      form_at-row (suc n) (counted_row tags.SHARED 0) (value_rows x ++ rs) (value_texts x ++ ts)
+      ∙ ap (λ (f : Found Form). found f (λ y rest left. Some (shared y, rest, left))) (form_back x n rs ts (omega arith) p.1)
   form_back (host t i) n rs ts le p = absurd (omega arith)
 
   forms_back : (xs : Forms) (n : ℕ) (rs : List CValue) (ts : List ℕ) → length (rows_of_forms xs) ≤ n → AreOfRun (rows_of_forms xs) → forms_at (form_at (suc n)) (length (listed_forms xs)) (rows_of_forms xs ++ rs) (texts_of_forms xs ++ ts) ≡ Some (xs, rs, ts)

@@ -29,7 +29,7 @@ use Rattle.rhai_flat.proofs.RowsInside.{array_rows, entry_texts_listed, map_rows
 use Rattle.rhai_flat.proofs.WrittenInside.{list_form_is, object_form_is, pointer_form_is}
 
 -- the row of a value, and then the rest
-row_and_rest : (a b : Reader) (row : CValue) (tag n : ℕ) (rs : List CValue) (ts : List ℕ) → has_bytes tag ≡ false → tag < tags.SHARED → row ≡ counted_row tag n → AreRead a b rs ts → (before : Reader) → IsRowTaken before row a → AreRead before b (counted_row tag n ∷ rs) ts
+row_and_rest : (a b : Reader) (row : CValue) (tag n : ℕ) (rs : List CValue) (ts : List ℕ) → has_bytes tag ≡ false → tag < tags.HOST → row ≡ counted_row tag n → AreRead a b rs ts → (before : Reader) → IsRowTaken before row a → AreRead before b (counted_row tag n ∷ rs) ts
 row_and_rest a b row tag n rs ts plain of_run is p before taken =
     read_after before a b (counted_row tag n ∷ []) rs [] ts (plain_read before a row tag n (pos 0) plain of_run is taken) p
 

@@ -45,7 +45,7 @@ none_read a = record { rows_are = refl; bytes_are = refl; from_is = omega arith;
 pub row_is : (r : CValue) (tag n : ℕ) (z : ℤ) → r.tag ≡ tag → r.count ≡ n → r.number ≡ z → r ≡ value_row tag n z
 row_is r tag n z e f g = ap (λ (t : ℕ). value_row t r.count r.number) e ∙ ap (λ (m : ℕ). value_row tag m r.number) f ∙ ap (λ (y : ℤ). value_row tag n y) g
 
-pub plain_read : (a b : Reader) (r : CValue) (tag n : ℕ) (z : ℤ) → has_bytes tag ≡ false → tag < tags.SHARED → r ≡ value_row tag n z → IsRowTaken a r b → AreRead a b (value_row tag n z ∷ []) []
+pub plain_read : (a b : Reader) (r : CValue) (tag n : ℕ) (z : ℤ) → has_bytes tag ≡ false → tag < tags.HOST → r ≡ value_row tag n z → IsRowTaken a r b → AreRead a b (value_row tag n z ∷ []) []
 plain_read a b r tag n z plain of_run is taken =
     let none = at_false (has_bytes tag) n 0 plain in
     let f = taken.from_is in

@@ -1,8 +1,9 @@
 -- A value of a run apart from where it is in memory: as the form that a constant has.
 use Rattle.std.specs.Prelude.{ℕ, Bool, true, false, List, [], map, String, string_bytes}
 use Rattle.std.specs.declared.alloc.Global.{Global}
-use Rattle.grain_format.specs.Form.{Form, unit, boolean, integer, character, text, range, range_inclusive, array, blob, object_map, fn_ptr, host, forms_of, form_entries_of}
+use Rattle.grain_format.specs.Form.{Form, unit, boolean, integer, character, text, range, range_inclusive, array, blob, object_map, fn_ptr, shared, host, forms_of, form_entries_of}
 use Rattle.rhai_values.specs.declared.interval.Interval.{Interval}
+use Rattle.rhai_values.specs.declared.value.Foreign.{Foreign}
 use Rattle.rhai_values.specs.declared.value.Value.{Value, fold-Value}
 use Rattle.rhai_values.specs.declared.value.List.{List as ValueList, fold-List}
 use Rattle.rhai_values.specs.declared.value.Object.{Object, fold-Object}
@@ -13,7 +14,11 @@ abbrev pub range_form : Bool → Interval → Form
 range_form false r = range r.from r.to
 range_form true r = range_inclusive r.from r.to
 
--- a shared variable has no flat form, as a value of the host has none
+-- a value of the host's own: its kind and its number, as no constant is
+abbrev pub foreign_form : Foreign → Form
+foreign_form f = shared (range f.kind f.number)
+
+-- a shared variable has no flat form
 abbrev pub flat_step : Value-F Form Form Form Form → Form
 flat_step Value-F.Unit = unit
 flat_step (Value-F.Bool b) = boolean b
@@ -25,6 +30,7 @@ flat_step (Value-F.Array l) = l.value
 flat_step (Value-F.Blob b) = blob b.value.items
 flat_step (Value-F.Map m) = m.value
 flat_step (Value-F.Pointer p) = p.value
+flat_step (Value-F.Foreign f) = foreign_form f.value
 flat_step (Value-F.Shared i) = host [] i
 
 abbrev pub flat_list_step : List-F Form Form Form Form → Form

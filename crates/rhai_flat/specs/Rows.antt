@@ -22,7 +22,7 @@ pub record IsAppended (old new : FlatValues) (rows : List CValue) (bytes : List 
 -- each is a row of a value of a run
 abbrev pub AreOfRun : List CValue → Type 0
 AreOfRun [] = Unit {0}
-AreOfRun (r ∷ rs) = (r.tag < tags.SHARED) × AreOfRun rs
+AreOfRun (r ∷ rs) = (r.tag < tags.HOST) × AreOfRun rs
 
 -- these rows were read, and these are the bytes of their texts and blobs
 pub record AreRead (old new : Reader) (rows : List CValue) (bytes : List ℕ) : Type 0 where

@@ -37,6 +37,9 @@ pub enum BadValue {
     /// A bound of a range isn't an integer.
     #[error("a bound of a range is no integer")]
     NotInteger,
+    /// What follows the row of a value of the host isn't a range.
+    #[error("a value of the host is no range")]
+    NotForeign,
     /// The name of a function or a key of a map isn't a text.
     #[error("a name or a key is no text")]
     NotName,

@@ -5,8 +5,8 @@
 //! one way. Values have one flat form: rows that differ from what [`FlatValues`] writes are refused. So the bytes of texts are in
 //! the order of their rows and without gaps, fields that a tag doesn't use are 0, and the keys of a map ascend.
 //!
-//! `SHARED`, `HOST` and `OPERATOR` of [`grain_flat_file::tags`] are tags of no value of a run. `HOST` is kept for values of the
-//! host's own, with their kind and number, and 15 for floats.
+//! A value of the host's own is a row `SHARED` of [`grain_flat_file::tags`], and a range from its kind to its number: no constant
+//! of a program is such a value. `HOST` and `OPERATOR` are tags of no value of a run, and 15 is kept for floats.
 #![tactic(auto)]
 
 mod bad_value;

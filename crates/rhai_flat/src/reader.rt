@@ -7,7 +7,7 @@ ghost use Rattle.rhai_flat.specs.declared.bad_value.BadValue.{BadValue};
 
 use crate::bad_value::BadValue;
 use grain_flat_file::CValue;
-use grain_flat_file::tags::{INTEGER, TEXT};
+use grain_flat_file::tags::{INTEGER, RANGE, TEXT};
 use std::alloc::Global;
 use std::str;
 
@@ -89,6 +89,17 @@ impl<'a> Reader<'a> {
             return Err(BadValue::NotName);
         }
         self.text(row)
+    }
+
+    /// Reads a row of a range, whose bounds follow.
+    pub(crate) fn range(&mut self) -> Result<(), BadValue>
+        ensures { OnOk result (AreRead self.old self.new (counted_row tags.RANGE 0 ∷ []) []) }
+    {
+        let row = self.row()?;
+        if row.tag != RANGE {
+            return Err(BadValue::NotForeign);
+        }
+        has_fields(row, 0, 0)
     }
 
     /// Reads a row of an integer.

@@ -14,9 +14,10 @@ use crate::bad_value::{BadValue, MAX_DEPTH};
 use crate::reader::{Reader, character, has_fields};
 use grain_flat_file::CValue;
 use grain_flat_file::tags::{
-    ARRAY, BLOB, CHARACTER, FALSE, FN_PTR, INTEGER, MAP, RANGE, RANGE_INCLUSIVE, TEXT, TRUE, UNIT,
+    ARRAY, BLOB, CHARACTER, FALSE, FN_PTR, INTEGER, MAP, RANGE, RANGE_INCLUSIVE, SHARED, TEXT,
+    TRUE, UNIT,
 };
-use rhai_values::{Interval, List, Object, Pointer, SizeLimits, Text, Value};
+use rhai_values::{Foreign, Interval, List, Object, Pointer, SizeLimits, Text, Value};
 use std::alloc::Global;
 use std::cmp::Ordering;
 use std::rc::Rc;
@@ -134,6 +135,7 @@ fn read_single(reader: &mut Reader<'_>, row: CValue) -> Result<Value, BadValue>
         }
         RANGE => read_range(reader, row, false),
         RANGE_INCLUSIVE => read_range(reader, row, true),
+        SHARED => read_foreign(reader, row),
         tag => Err(BadValue::UnknownTag(tag)),
     }
 }
@@ -153,6 +155,19 @@ fn read_range(reader: &mut Reader<'_>, row: CValue, inclusive: bool) -> Result<V
         inclusive,
     };
     Ok(Value::Range(Rc::new(reader.alloc, range)?))
+}
+
+/// Reads the kind and the number of a value of the host.
+fn read_foreign(reader: &mut Reader<'_>, row: CValue) -> Result<Value, BadValue>
+    requires { row.tag ≡ tags.SHARED }
+    ensures { IfOk result (λ value.
+        IsFormReadBehind row reader.old reader.new (flat_form value)) }
+{
+    has_fields(row, 0, 0)?;
+    reader.range()?;
+    let kind = reader.integer()?;
+    let number = reader.integer()?;
+    Ok(Value::Foreign(Rc::new(reader.alloc, Foreign { kind, number })?))
 }
 
 /// How deep values are nested at most in one in which they are nested so deep.

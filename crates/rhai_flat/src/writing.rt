@@ -2,14 +2,15 @@
 ghost use Rattle.std.specs.Prelude.{◌≡◌, ◌∷◌, [], ◌++◌, false, true, OnOk, OnErr, length, pos};
 ghost use Rattle.std.specs.List.{flat_map};
 ghost use Rattle.grain_flat_file.specs.Values.{counted_row, entry_rows, entry_texts, has_bytes, value_row, value_rows, value_texts};
-ghost use Rattle.rhai_flat.specs.Forms.{flat_entries, flat_form, flat_forms, flat_list, flat_object, flat_pointer, range_form};
+ghost use Rattle.rhai_flat.specs.Forms.{flat_entries, flat_form, flat_forms, flat_list, flat_object, flat_pointer, foreign_form, range_form};
 ghost use Rattle.rhai_flat.specs.Rows.{IsAppended};
 
 use grain_flat_file::CValue;
 use grain_flat_file::tags::{
-    ARRAY, BLOB, CHARACTER, FALSE, FN_PTR, INTEGER, MAP, RANGE, RANGE_INCLUSIVE, TEXT, TRUE, UNIT,
+    ARRAY, BLOB, CHARACTER, FALSE, FN_PTR, INTEGER, MAP, RANGE, RANGE_INCLUSIVE, SHARED, TEXT,
+    TRUE, UNIT,
 };
-use rhai_values::{Cause, Interval, List, Object, Pointer, Value};
+use rhai_values::{Cause, Foreign, Interval, List, Object, Pointer, Value};
 use std::alloc::Global;
 use std::collections::BTreeMap;
 
@@ -135,6 +136,17 @@ impl FlatValues {
         self.push_plain(INTEGER, 0, range.to)
     }
 
+    /// Appends a value of the host.
+    fn push_foreign(&mut self, foreign: &Foreign) -> Result<(), Cause>
+        ensures { OnOk result (IsAppended self.old self.new
+            (value_rows (foreign_form foreign.now)) (value_texts (foreign_form foreign.now))) }
+    {
+        self.push_plain(SHARED, 0, 0)?;
+        self.push_plain(RANGE, 0, 0)?;
+        self.push_plain(INTEGER, 0, foreign.kind)?;
+        self.push_plain(INTEGER, 0, foreign.number)
+    }
+
     /// Appends a value.
     #[cycle(add_value)]
     fn add(&mut self, value: &Value) -> Result<(), Cause>
@@ -152,6 +164,7 @@ impl FlatValues {
             Value::Blob(bytes) => self.push_bytes(BLOB, bytes),
             Value::Map(object) => self.add_map(object),
             Value::Pointer(pointer) => self.add_pointer(pointer),
+            Value::Foreign(foreign) => self.push_foreign(foreign),
             Value::Shared(_) => Err(Cause::Unsupported),
         }
     }

@@ -18,6 +18,7 @@ mod named;
 mod runs;
 mod script;
 mod table;
+mod top;
 mod world;
 
 pub use asked::Asked;

@@ -54,6 +54,7 @@ impl<W: World + Drop> Script<W> {
     /// Drops all variables. The caller must drop all runs.
     pub fn clear_variables(&mut self) {
         self.begin_run();
+        self.top.clear();
         self.variables = Variables::new(self.alloc);
     }
 
@@ -102,6 +103,7 @@ impl<W: World + Drop> Script<W> {
             }
             None => {
                 self.leave(0);
+                self.keep_top();
                 self.variables.begin_run();
             }
         }

@@ -7,6 +7,7 @@ use crate::asked::{Asked, OuterRun};
 use crate::chains::{Context, assign_to};
 use crate::fault::Failure;
 use crate::table::Table;
+use crate::top::Top;
 use crate::world::World;
 use grain::Program;
 use grain_code::Op;
@@ -47,6 +48,8 @@ pub struct Script<W> {
     pub(crate) entered: usize,
     /// The runs that wait while the last one is under way, the last that began at the end.
     pub(crate) outer: Vec<OuterRun>,
+    /// What the last run of the top level left.
+    pub(crate) top: Top,
 }
 
 impl<W: World + Drop> Script<W> {
@@ -80,6 +83,7 @@ impl<W: World + Drop> Script<W> {
             asked: None,
             entered: 0,
             outer: Vec::new(alloc),
+            top: Top::new(alloc),
         })
     }
 

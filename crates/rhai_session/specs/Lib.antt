@@ -1,2 +1,3 @@
--- what hosts are shown
+-- what hosts are shown, and of which kind faults are
+pub mod Kinds
 pub mod Shown

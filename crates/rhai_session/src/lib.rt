@@ -6,11 +6,14 @@
 #![tactic(auto)]
 
 mod event;
+mod failure;
+mod foreign;
 mod opening;
 mod report;
 mod running;
 mod session;
 
 pub use event::{Answer, HostEvent, Refused};
+pub use failure::{FaultKind, RunFailure};
 pub use opening::{CompileStop, LoadStop};
 pub use session::Session;

@@ -103,7 +103,7 @@ impl Session {
     /// A session of a verified program.
     fn of(alloc: Global, verified: Verified, bounds: Bounds) -> Result<Session, LoadStop>
         ensures { IfOk result (λ made. made
-            ≡ shown_of (idle verified.program bounds.calls bounds.runs) None [] [] 0 []) }
+            ≡ shown_of (idle verified.program bounds.calls bounds.runs) None [] [] 0 [] None) }
     {
         let prepared = Arc::new(alloc, prepare(alloc, verified)?)?;
         Ok(Session::new(alloc, prepared, bounds)?)
@@ -116,7 +116,7 @@ impl Session {
     pub fn compile(alloc: Global, source: &[u8], bounds: Bounds) -> Result<Session, CompileStop>
         ensures accepted { IfOk result (λ made. IsAccepted (input_of made.state.program)) }
         ensures new { IfOk result (λ made. made
-            ≡ shown_of (idle made.state.program bounds.calls bounds.runs) None [] [] 0 []) }
+            ≡ shown_of (idle made.state.program bounds.calls bounds.runs) None [] [] 0 [] None) }
     {
         let Ok(source) = str::from_utf8(source) else {
             return Err(CompileStop::NoScript(String::from_str(
@@ -153,7 +153,7 @@ impl Session {
     ) -> Result<Session, LoadStop>
         ensures accepted { IfOk result (λ made. IsAccepted (input_of made.state.program)) }
         ensures new { IfOk result (λ made. made
-            ≡ shown_of (idle made.state.program bounds.calls bounds.runs) None [] [] 0 []) }
+            ≡ shown_of (idle made.state.program bounds.calls bounds.runs) None [] [] 0 [] None) }
     {
         let program = match read(alloc, bytes, limits) {
             Ok(program) => program,
@@ -175,7 +175,7 @@ impl Session {
     ) -> Result<Session, LoadStop>
         ensures accepted { IfOk result (λ made. IsAccepted (input_of made.state.program)) }
         ensures new { IfOk result (λ made. made
-            ≡ shown_of (idle made.state.program bounds.calls bounds.runs) None [] [] 0 []) }
+            ≡ shown_of (idle made.state.program bounds.calls bounds.runs) None [] [] 0 [] None) }
     {
         if spans_of(program.chunks()?.as_slice()) > work {
             return Err(LoadStop::Work);

@@ -1,16 +1,20 @@
 //! Runs of a session, and the calls for which they wait.
-ghost use Rattle.std.specs.Prelude.{◌≡◌, ◌≤◌, ◌↔◌, ◌⊎◌, Err, IsSome, IsTrue, MatchOption, None, OnErr, OnOk, []};
-ghost use Rattle.rhai_engine.specs.Session.{BeginsFunction, IsStopped, KeepsProgram, idle, with_run};
+ghost use Rattle.std.specs.Prelude.{◌≡◌, ◌≤◌, ◌↔◌, ◌⊎◌, Err, IsSome, IsTrue, MatchOption, None, OnErr, OnOk, Some, []};
+ghost use Rattle.rhai_engine.specs.Session.{BeginsFunction, KeepsProgram, idle, with_run};
 ghost use Rattle.rhai_runtime.specs.Named.{LacksFunction};
-ghost use Rattle.rhai_session.specs.Shown.{EndsCall, IsResumed, IsKeptStep, ShowsEvent, WaitsForHost, begun_of, shown_of};
+ghost use Rattle.rhai_session.specs.Kinds.{kind_of};
+ghost use Rattle.rhai_session.specs.Shown.{EndsCall, IsKeptStep, IsResumed, IsStoppedOnce, ShowsCause, ShowsEvent, ShowsFault, ShowsNothing, ShowsValue, WaitsForHost, begun_of, shown_of};
 
 use crate::event::{Answer, HostEvent, Refused};
+use crate::failure::{FaultKind, RunFailure, kind_of};
 use crate::report::report;
 use crate::session::{Session, text_of};
 use rhai_engine::{BeginError, Event, Status};
 use rhai_flat::CValue;
 use rhai_runtime::Fault;
 use rhai_values::{Cause, Value};
+use std::alloc::AllocError;
+use std::slice;
 
 impl Session {
     /// Begins a run of the top level.
@@ -53,7 +57,11 @@ impl Session {
         }
         let name = text_of(name)?;
         let arguments = self.values_of(rows, texts, count)?;
+        let before = self.remember(&arguments)?;
         let begun = self.state.begin_call(name, arguments);
+        if begun.is_err() {
+            self.passed.truncate(before);
+        }
         begun_or_refused(begun)
     }
 
@@ -74,7 +82,7 @@ impl Session {
     fn keep_end(&mut self, event: Event)
         requires { self.old.ended ≡ None }
         ensures state { self.new.state ≡ self.old.state }
-        ensures kept { IsKeptStep event self.new.ended }
+        ensures kept { IsKeptStep event self.new.ended self.new }
     {
         match self.step_of(event) {
             HostEvent::Paused => {}
@@ -86,7 +94,7 @@ impl Session {
     fn step_of(&mut self, event: Event) -> HostEvent
         ensures state { self.new.state ≡ self.old.state }
         ensures ended { self.new.ended ≡ self.old.ended }
-        ensures shows { ShowsEvent event result }
+        ensures shows { ShowsEvent event result self.new }
     {
         self.clear_shown();
         match event {
@@ -99,33 +107,75 @@ impl Session {
         }
     }
 
-    /// Shows the value that a run returned. One that has no rows is a fault of the host's call, and shows nothing.
-    fn returned(&mut self, value: &Value) -> HostEvent
+    /// Shows a value. One that has no rows, since closures share a part of it, isn't shown.
+    fn show_value(&mut self, value: &Value) -> Result<(), AllocError>
+        requires { ShowsNothing self.old }
         ensures kept { (self.new.state ≡ self.old.state) × (self.new.ended ≡ self.old.ended) }
-        ensures shows { (result ≡ HostEvent.Returned) ⊎ (result ≡ HostEvent.OutOfMemory) }
+        ensures shows { OnOk result (ShowsValue value.now self.new) }
     {
         match self.shown.write(value) {
             Ok(()) => {
                 self.count = 1;
-                HostEvent::Returned
+                Ok(())
             }
-            Err(Cause::OutOfMemory) => HostEvent::OutOfMemory,
-            Err(_) => HostEvent::Returned,
+            Err(Cause::OutOfMemory) => Err(AllocError),
+            Err(_) => Ok(()),
         }
     }
 
-    fn failed(&mut self, fault: &Fault) -> HostEvent
+    /// Shows the value that was thrown, if the cause is one.
+    fn show_cause(&mut self, cause: &Cause) -> Result<(), AllocError>
+        requires { ShowsNothing self.old }
         ensures kept { (self.new.state ≡ self.old.state) × (self.new.ended ≡ self.old.ended) }
-        ensures shows { (result ≡ HostEvent.Failed) ⊎ (result ≡ HostEvent.OutOfMemory) }
+        ensures shows { OnOk result (ShowsCause cause.now self.new) }
     {
-        if matches!(fault.cause, Cause::OutOfMemory) {
-            return HostEvent::OutOfMemory;
+        match cause {
+            Cause::Thrown(value) => self.show_value(value),
+            _ => Ok(()),
         }
-        match report(self.alloc, &self.state, fault) {
-            Ok(text) => {
-                self.fault = text;
-                HostEvent::Failed
-            }
+    }
+
+    /// Shows the value that a run returned.
+    fn returned(&mut self, value: &Value) -> HostEvent
+        requires { ShowsNothing self.old }
+        ensures kept { (self.new.state ≡ self.old.state) × (self.new.ended ≡ self.old.ended) }
+        ensures shows { ((result ≡ HostEvent.Returned) × ShowsValue value.now self.new)
+            ⊎ (result ≡ HostEvent.OutOfMemory) }
+    {
+        match self.show_value(value) {
+            Ok(()) => HostEvent::Returned,
+            Err(_) => HostEvent::OutOfMemory,
+        }
+    }
+
+    /// Shows why a run failed.
+    fn show_fault(&mut self, kind: FaultKind, fault: &Fault) -> Result<(), AllocError>
+        requires kind { kind_of fault.now.cause ≡ Some kind }
+        requires cleared { ShowsNothing self.old }
+        ensures kept { (self.new.state ≡ self.old.state) × (self.new.ended ≡ self.old.ended) }
+        ensures shows { OnOk result (ShowsFault fault.now self.new) }
+    {
+        self.show_cause(&fault.cause)?;
+        self.fault = report(self.alloc, &self.state, fault)?;
+        self.failure = Some(RunFailure {
+            kind,
+            at: fault.at,
+            position: fault.position(self.state.program()),
+        });
+        Ok(())
+    }
+
+    fn failed(&mut self, fault: &Fault) -> HostEvent
+        requires { ShowsNothing self.old }
+        ensures kept { (self.new.state ≡ self.old.state) × (self.new.ended ≡ self.old.ended) }
+        ensures shows { ((result ≡ HostEvent.Failed) × ShowsFault fault.now self.new)
+            ⊎ (result ≡ HostEvent.OutOfMemory) }
+    {
+        let Some(kind) = kind_of(&fault.cause) else {
+            return HostEvent::OutOfMemory;
+        };
+        match self.show_fault(kind, fault) {
+            Ok(()) => HostEvent::Failed,
             Err(_) => HostEvent::OutOfMemory,
         }
     }
@@ -178,9 +228,13 @@ impl Session {
             return Err(Refused::NotNow);
         }
         let value = self.value_of(rows, texts)?;
+        let before = self.remember(slice::from_ref(&value))?;
         match self.state.replace_receiver(value) {
             Some(_) => Ok(()),
-            None => Err(Refused::NotNow),
+            None => {
+                self.passed.truncate(before);
+                Err(Refused::NotNow)
+            }
         }
     }
 
@@ -192,12 +246,13 @@ impl Session {
         ensures keeps { KeepsProgram self.old.state self.new.state }
         ensures refused { OnErr result (self.new ≡ self.old) }
         ensures asked { (result ≡ Err Refused.NotNow) ↔ (WaitsForHost self.old → ⊥) }
-        ensures ended { OnOk result (EndsCall self.old.state self.new.state self.new.ended) }
+        ensures ended { OnOk result (EndsCall self.old self.new) }
     {
         if !self.is_asked() {
             return Err(Refused::NotNow);
         }
         let value = self.value_of(rows, texts)?;
+        let _before = self.remember(slice::from_ref(&value))?;
         let event = match answer {
             Answer::Return => self.state.answer(value),
             Answer::Throw => self.state.fail(Cause::Thrown(value)),
@@ -214,7 +269,7 @@ impl Session {
         ensures keeps { KeepsProgram self.old.state self.new.state }
         ensures refused { OnErr result (self.new ≡ self.old) }
         ensures asked { (result ≡ Err Refused.NotNow) ↔ (WaitsForHost self.old → ⊥) }
-        ensures ended { OnOk result (EndsCall self.old.state self.new.state self.new.ended) }
+        ensures ended { OnOk result (EndsCall self.old self.new) }
     {
         if !self.is_asked() {
             return Err(Refused::NotNow);
@@ -228,8 +283,7 @@ impl Session {
     /// Ends the last run, whatever it waits for.
     pub fn stop(&mut self)
         ensures keeps { KeepsProgram self.old.state self.new.state }
-        ensures stopped { MatchOption self.old.ended (IsStopped self.old.state self.new.state)
-            (λ _. self.new.state ≡ self.old.state) }
+        ensures stopped { IsStoppedOnce self.old self.new }
     {
         self.clear_shown();
         if self.ended.take().is_none() {
@@ -240,11 +294,12 @@ impl Session {
     /// Ends all runs, and drops all variables and what was printed.
     pub fn reset(&mut self)
         ensures { self.new ≡ shown_of
-            (idle self.old.state.program self.old.state.calls self.old.state.nested) None [] [] 0 [] }
+            (idle self.old.state.program self.old.state.calls self.old.state.nested) None [] [] 0 [] None }
     {
         self.clear_shown();
         self.ended = None;
         self.fault.clear();
+        self.failure = None;
         self.state.reset();
     }
 }

@@ -1,20 +1,24 @@
 //! A session, its variables and its output.
 ghost use Rattle.std.specs.Prelude.{◌≡◌, Err, None, IfErr, IfOk, OnOk, [], length};
 ghost use Rattle.std.specs.Arc.{arc_value};
+ghost use Rattle.grain_format.specs.Reading.{Decides};
+ghost use Rattle.grain_file.specs.ProgramFile.{Bounds as FileBounds, IsFile, IsWithin, kept, refusal_of};
 ghost use Rattle.rhai_engine.specs.Session.{idle};
 ghost use Rattle.rhai_runtime.specs.Named.{LacksName};
 ghost use Rattle.rhai_session.specs.Shown.{IsOfValue, shown_of};
 
 use crate::event::{HostEvent, Refused};
+use crate::failure::RunFailure;
 use grain_file::{WriteError, write};
 use grain_machine::Prepared;
 use rhai_engine::{Bounds, State, VariableError};
 use rhai_flat::{BadValue, CValue, FlatValues, read_values};
-use rhai_values::{Cause, Value};
+use rhai_values::{Cause, Foreign, Value};
 use std::alloc::Global;
 use std::marker::Model;
-use std::str;
+use std::rc::Rc;
 use std::sync::Arc;
+use std::{slice, str};
 
 /// A state of a script, and what its host is shown: values as rows, and texts.
 #[derive(Drop)]
@@ -28,6 +32,10 @@ pub struct Session {
     pub(crate) count: usize,
     /// The last fault, with the calls that it ended, a line each.
     pub(crate) fault: String,
+    /// Why and where that was.
+    pub(crate) failure: Option<RunFailure>,
+    /// The values of the host's own that were passed and may be in use still.
+    pub(crate) passed: Vec<Rc<Foreign>>,
     /// How the last run ended, if a call of the host ended it and the host hasn't resumed since.
     pub(crate) ended: Option<HostEvent>,
 }
@@ -38,14 +46,15 @@ impl Model for Session {
     ghost use Rattle.grain_flat_file.specs.contracts.records.CValue as row;
     ghost use Rattle.rhai_engine.specs.contracts.state.State as engine;
     ghost use Rattle.rhai_session.specs.contracts.event.HostEvent as event;
+    ghost use Rattle.rhai_session.specs.contracts.failure.RunFailure as why;
     ghost use Rattle.rhai_session.specs.Shown.{Shown, shown_of};
 
     ghost Value = { Shown };
 
-    ghost coded = { Prim.hlevel (codes, engine.the_row.coded, row.the_row.coded, event.the_row.coded) };
+    ghost coded = { Prim.hlevel (codes, engine.the_row.coded, row.the_row.coded, event.the_row.coded, why.the_row.coded) };
 
     ghost view = { λ s. shown_of s.state s.ended
-        s.shown.rows.items s.shown.texts.items s.count (string_bytes s.fault) };
+        s.shown.rows.items s.shown.texts.items s.count (string_bytes s.fault) s.failure };
 }
 
 impl Session {
@@ -55,7 +64,7 @@ impl Session {
     /// As [`State::new`].
     pub fn new(alloc: Global, prepared: Arc<Prepared>, bounds: Bounds) -> Result<Session, Cause>
         ensures { IfOk result (λ made. made
-            ≡ shown_of (idle (arc_value prepared).program bounds.calls bounds.runs) None [] [] 0 []) }
+            ≡ shown_of (idle (arc_value prepared).program bounds.calls bounds.runs) None [] [] 0 [] None) }
     {
         let state = State::new(alloc, prepared, bounds)?;
         Ok(Session {
@@ -65,25 +74,34 @@ impl Session {
             shown: FlatValues::new(alloc),
             count: 0,
             fault: String::new(alloc),
+            failure: None,
+            passed: Vec::new(alloc),
             ended: None,
         })
     }
 
-    /// Another session of the same program, with the same bounds.
+    /// Another session of the same program, which both share, with these bounds.
     ///
     /// # Errors
     /// As [`State::new`].
-    pub fn another(&self) -> Result<Session, Cause>
-        ensures { IfOk result (λ made. made.state.program ≡ self.now.state.program) }
+    pub fn another(&self, bounds: Bounds) -> Result<Session, Cause>
+        ensures same { IfOk result (λ made. made.state.program ≡ self.now.state.program) }
+        ensures new { IfOk result (λ made. made
+            ≡ shown_of (idle made.state.program bounds.calls bounds.runs) None [] [] 0 [] None) }
     {
-        Session::new(self.alloc, self.state.prepared().clone()?, self.bounds)
+        Session::new(self.alloc, self.state.prepared().clone()?, bounds)
     }
 
     /// The program file of its program.
     ///
     /// # Errors
     /// As [`write`].
-    pub fn file(&self) -> Result<Vec<u8>, WriteError> {
+    pub fn file(&self) -> Result<Vec<u8>, WriteError>
+        ensures file { IfOk result (λ v. (limits : FileBounds)
+            → IsWithin limits (kept self.now.state.program)
+            → IsFile limits v.items (kept self.now.state.program)) }
+        ensures decides { Decides result (refusal_of (kept self.now.state.program)) }
+    {
         write(self.alloc, self.state.program())
     }
 
@@ -113,7 +131,12 @@ impl Session {
     {
         let name = text_of(name)?;
         let value = self.value_of(rows, texts)?;
-        match self.state.set_variable(name, value) {
+        let before = self.remember(slice::from_ref(&value))?;
+        let set = self.state.set_variable(name, value);
+        if set.is_err() {
+            self.passed.truncate(before);
+        }
+        match set {
             Ok(()) => Ok(()),
             Err(VariableError::NoName) => Err(Refused::NoName),
             Err(VariableError::TooLarge) => Err(Refused::BadValue),
@@ -184,8 +207,17 @@ impl Session {
         self.fault.as_str()
     }
 
+    /// Why and where the last fault was, if there was one.
+    #[must_use]
+    pub fn failure(&self) -> Option<RunFailure>
+        ensures { result ≡ self.now.failure }
+    {
+        self.failure
+    }
+
     pub(crate) fn clear_shown(&mut self)
-        ensures { self.new ≡ shown_of self.old.state self.old.ended [] [] 0 self.old.fault }
+        ensures { self.new
+            ≡ shown_of self.old.state self.old.ended [] [] 0 self.old.fault self.old.failure }
     {
         self.shown.clear();
         self.count = 0;

@@ -2,7 +2,7 @@
 
 use crate::cause::Cause;
 use crate::value::{Object, Pointer, Value};
-use grain_base::{Dynamic, FnPtr};
+use grain_base::{Dynamic, FnPtr, HostValue};
 use std::alloc::{AllocError, Global};
 use std::collections::BTreeMap;
 use std::rc::Rc;
@@ -79,6 +79,11 @@ pub fn constant_of(alloc: Global, value: &Value) -> Result<Dynamic, AllocError> 
             }
             Ok(Dynamic::Map(constants))
         }
+        // No program has such a constant.
+        Value::Foreign(foreign) => Ok(Dynamic::Host(HostValue {
+            type_name: String::new(alloc),
+            id: foreign.number.unsigned_abs(),
+        })),
         Value::Pointer(pointer) => Ok(Dynamic::FnPtr(FnPtr {
             name: String::from_str(alloc, pointer.name())?,
             curry: constants_of(alloc, &pointer.bound)?,

@@ -39,6 +39,6 @@ pub use measure::{Measure, SizeLimits};
 pub use path::{Key, swapped};
 pub use places::place_of;
 pub use text::Text;
-pub use value::{List, Object, Pointer, Value};
+pub use value::{Foreign, List, Object, Pointer, Value};
 pub use variables::Variables;
 pub use walk::Walk;

@@ -63,6 +63,11 @@ impl fmt::Debug for Value {
                 let name = pointer.name();
                 write!(f, "Fn({name})")
             }
+            Value::Foreign(foreign) => {
+                let kind = foreign.kind;
+                let number = foreign.number;
+                write!(f, "foreign({kind}, {number})")
+            }
             Value::Shared(_) => f.write_str("<shared>"),
         }
     }

@@ -35,6 +35,8 @@ pub enum Value {
     Map(Rc<Object>),
     /// A function by its name, with arguments that are bound already.
     Pointer(Rc<Pointer>),
+    /// A value of the host's own.
+    Foreign(Rc<Foreign>),
     /// A variable that closures share: its index among the shared ones of the script. It lies in local variables and among
     /// bound arguments alone.
     Shared(usize),
@@ -108,6 +110,7 @@ impl Value {
             | Value::Int(_)
             | Value::Char(_)
             | Value::Range(_)
+            | Value::Foreign(_)
             | Value::Shared(_) => Measure { size: 1, depth: 0 },
         }
     }
@@ -126,9 +129,19 @@ impl Value {
             Value::Blob(_) => "blob",
             Value::Map(_) => "map",
             Value::Pointer(_) => "Fn",
+            Value::Foreign(_) => "foreign",
             Value::Shared(_) => "shared",
         }
     }
+}
+
+/// A value of the host's own. Scripts pass it on and compare it, and can't make one. The host knows what it stands for.
+#[derive(Clone, Copy, Debug, PartialEq, Eq, Drop)]
+pub struct Foreign {
+    /// Of which kind it is.
+    pub kind: i64,
+    /// Which one of its kind it is.
+    pub number: i64,
 }
 
 /// The items of an array, with how large they are together.

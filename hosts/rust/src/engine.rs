@@ -27,6 +27,7 @@
 //! What is proved of the library's core: only accepted programs run, each run keeps to its instructions and operand stack, and a call
 //! makes at most the turns that it is given. This module is plain Rust around it, tested and not proved.
 mod error;
+mod fault;
 mod functions;
 mod handle;
 mod rows;
@@ -36,8 +37,9 @@ mod step;
 mod values;
 
 pub use error::{CompileError, HostError, LoadError, RunError, WrongType};
+pub use fault::{Fault, FaultKind};
 pub use functions::{Changed, IntoAnswer, IntoFunction, IntoMethod, Plain, WithState};
 pub use script::{Bounds, Engine, Interrupt, Script};
 pub use state::State;
 pub use step::{Call, Step};
-pub use values::{FromValue, IntoArguments, Value};
+pub use values::{Foreign, FromValue, IntoArguments, Value};

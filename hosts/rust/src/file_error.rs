@@ -1,34 +1,9 @@
 //! Why bytes aren't a program file.
+use crate::numbered::numbered;
 use crate::raw;
 use crate::text::Text;
 use std::error::Error;
 use std::fmt;
-
-/// An enum whose variants have the numbers that the library gives them.
-macro_rules! numbered {
-    ($(#[$about:meta])* $name:ident, $($(#[$doc:meta])* $variant:ident = $number:literal,)*) => {
-        $(#[$about])*
-        #[derive(Clone, Copy, Debug, PartialEq, Eq, Hash)]
-        #[non_exhaustive]
-        pub enum $name {
-            $($(#[$doc])* $variant,)*
-            /// A number that this package doesn't know.
-            Unknown(
-                /// Its number.
-                u32,
-            ),
-        }
-
-        impl $name {
-            fn of_number(number: u32) -> $name {
-                match number {
-                    $($number => $name::$variant,)*
-                    number => $name::Unknown(number),
-                }
-            }
-        }
-    };
-}
 
 numbered! {
     /// What is wrong with the bytes of a file.

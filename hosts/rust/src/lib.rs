@@ -113,6 +113,7 @@ mod items;
 mod limits;
 mod listing;
 mod mnemonics;
+mod numbered;
 mod opcode;
 mod places;
 mod pools;

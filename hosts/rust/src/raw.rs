@@ -494,6 +494,15 @@ impl Default for Values {
 }
 
 #[repr(C)]
+#[derive(Default)]
+pub(crate) struct Failure {
+    pub(crate) kind: u32,
+    pub(crate) line: u32,
+    pub(crate) column: u32,
+    pub(crate) at: usize,
+}
+
+#[repr(C)]
 pub(crate) struct Asked {
     pub(crate) name: *const c_char,
     pub(crate) name_len: usize,
@@ -530,7 +539,11 @@ extern "C" {
         error: *mut ReadError,
         report: *mut Report,
     ) -> u32;
-    pub(crate) fn grain_state_another(other: *mut *mut State, state: *mut State) -> u32;
+    pub(crate) fn grain_state_another(
+        other: *mut *mut State,
+        state: *mut State,
+        bounds: *const Bounds,
+    ) -> u32;
     pub(crate) fn grain_state_file(state: *mut State, file: *mut Room) -> u32;
     pub(crate) fn grain_state_free(state: *mut State);
     pub(crate) fn grain_state_register(
@@ -565,6 +578,8 @@ extern "C" {
     pub(crate) fn grain_state_throw(state: *mut State, value: *const Values) -> u32;
     pub(crate) fn grain_state_fail(state: *mut State, why: *const c_char, why_len: usize) -> u32;
     pub(crate) fn grain_state_stop(state: *mut State);
+    pub(crate) fn grain_state_dropped(state: *mut State, values: *mut Values) -> u32;
+    pub(crate) fn grain_state_failure(state: *mut State, failure: *mut Failure) -> u32;
     pub(crate) fn grain_state_fault(state: *mut State, text: *mut c_char, size: usize) -> usize;
     pub(crate) fn grain_state_memory(state: *const State) -> usize;
     pub(crate) fn grain_state_printed(state: *mut State, text: *mut c_char, size: usize) -> usize;

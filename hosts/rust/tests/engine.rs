@@ -1,7 +1,7 @@
 //! Scripts in this process: states, functions of the host, bounds, and threads.
 use grain::engine::{
-    Bounds, CompileError, Engine, HostError, Interrupt, LoadError, RunError, Script, State, Value,
-    WrongType,
+    Bounds, CompileError, Engine, FaultKind, HostError, Interrupt, LoadError, RunError, Script,
+    State, Value, WrongType,
 };
 use grain::{FileError, Limits};
 use std::error::Error;
@@ -61,9 +61,106 @@ fn errors_and_faults_have_lines() {
         panic!("returned");
     };
     assert!(
-        fault.contains("(line 2, position 5)") && fault.contains("called from main:4:1"),
+        fault.text().contains("(line 2, position 5)")
+            && fault.text().contains("called from main:4:1"),
         "{fault}"
     );
+}
+
+/// Variables of the top level can be read when its run has ended, and until the next one begins.
+#[test]
+fn variables_of_the_top_level_stay_to_be_read() {
+    let engine = engine();
+    let text = "
+        fn f() { let inner = 1; inner }
+        fn g() { a }
+        let a = 1;
+        { let hidden = 5; }
+        for i in 0..3 { let b = i; if b == 1 { break; } let c = 2; }
+        let b = [a, f()];
+        let a = 3;
+        let add = |n| { b.push(n); };
+        add.call(7);
+        if again == 1 { throw 9 }
+        let late = 4;
+    ";
+    let mut state = state(&engine, text);
+    state.set("again", 0).unwrap();
+    assert!(state.get::<Value>("a").is_err());
+    assert_eq!(state.run::<()>(), Ok(()));
+    assert_eq!(state.get("a"), Ok(3));
+    assert_eq!(state.get::<Vec<i64>>("b"), Ok(vec![1, 1, 7]));
+    assert_eq!(state.get("late"), Ok(4));
+    for none in ["hidden", "i", "c", "inner"] {
+        assert!(state.get::<Value>(none).is_err(), "{none}");
+    }
+    assert_eq!(state.call("f", ()), Ok(1));
+    assert!(state.call::<Value>("g", ()).is_err());
+    assert_eq!(state.get("a"), Ok(3));
+    state.set("again", 1).unwrap();
+    assert!(state.run::<()>().is_err());
+    assert_eq!(state.get("a"), Ok(3));
+    assert!(state.get::<Value>("late").is_err());
+    state.reset();
+    assert!(state.get::<Value>("a").is_err());
+}
+
+#[test]
+fn faults_have_kinds() {
+    let mut engine = engine();
+    engine
+        .bounds(Bounds::new().calls(10).value_size(100))
+        .register("get", |_: String| -> Result<i64, HostError> {
+            Err(HostError::Fail("no network".into()))
+        });
+    let cases = [
+        ("throw #{ a: [1] }", FaultKind::Thrown),
+        ("missing", FaultKind::NoVariable),
+        ("missing(1)", FaultKind::NoFunction),
+        ("let x = 1; x.missing", FaultKind::NoProperty),
+        ("let x = 9223372036854775807; x + 1", FaultKind::Overflow),
+        ("1 % 0", FaultKind::DivisionByZero),
+        ("let x = [1]; x[1]", FaultKind::OutOfBounds),
+        ("fn f() { this } f()", FaultKind::NoThis),
+        ("fn f() { f() } f()", FaultKind::TooDeep),
+        (
+            "let x = \"123456789\"; loop { x += x }",
+            FaultKind::TooLarge,
+        ),
+        ("if 1 { }", FaultKind::WrongType),
+        ("get(\"c\")", FaultKind::Host),
+    ];
+    for (text, kind) in cases {
+        match state(&engine, text).run::<Value>() {
+            Err(RunError::Fault(fault)) => {
+                assert_eq!(fault.kind(), kind, "{text}: {fault}");
+                assert_eq!(fault.position().map(|(line, _)| line), Some(1), "{text}");
+                assert_eq!(fault.thrown().is_some(), kind == FaultKind::Thrown);
+            }
+            other => panic!("{text}: {other:?}"),
+        }
+    }
+}
+
+/// What a nested run throws is shown while the outer run waits, and a value that closures share is not.
+#[test]
+fn what_was_thrown_is_shown() {
+    let mut engine = engine();
+    engine.register("again", |state: &mut State, n: i64| {
+        match state.call::<Value>("fails", (n,)) {
+            Err(RunError::Fault(fault)) => fault.thrown().cloned().unwrap_or_default(),
+            other => panic!("{other:?}"),
+        }
+    });
+    let text = "fn fails(n) { throw n + 1 } again(3) + again(4)";
+    assert_eq!(state(&engine, text).run::<i64>(), Ok(9));
+    let shared = "let x = 1; let f = || x; throw f";
+    match state(&engine, shared).run::<Value>() {
+        Err(RunError::Fault(fault)) => {
+            assert_eq!((fault.kind(), fault.thrown()), (FaultKind::Thrown, None));
+        }
+        other => panic!("{other:?}"),
+    }
 }
 
 #[test]
@@ -81,7 +178,7 @@ fn a_script_catches_what_is_thrown_and_not_what_fails() {
     assert_eq!(state.call::<i64>("get", ("a",)), Ok(7));
     assert_eq!(state.call::<String>("get", ("b",)), Ok("no b".into()));
     assert!(
-        matches!(state.call::<i64>("get", ("c",)), Err(RunError::Fault(text)) if text.contains("no network"))
+        matches!(state.call::<i64>("get", ("c",)), Err(RunError::Fault(fault)) if fault.text().contains("no network"))
     );
     assert_eq!(
         state.call::<String>("get", (1,)),
@@ -135,21 +232,31 @@ fn a_panic_of_a_closure_ends_the_run_and_not_the_state() {
     assert_eq!(state.run::<i64>(), Ok(5));
 }
 
+/// Each thread makes states of one script and frees them, and the script is dropped meanwhile.
 #[test]
 fn scripts_are_shared_by_threads() {
     let engine = engine();
     let script = engine.compile("fn f(n) { double(n) } 0").unwrap();
-    thread::scope(|scope| {
-        for k in 0..4i64 {
-            let (engine, script) = (&engine, &script);
-            scope.spawn(move || {
-                let mut state = engine.state(script).unwrap();
+    let threads: Vec<_> = (0..4i64)
+        .map(|k| {
+            let (engine, script) = (engine.clone(), script.clone());
+            thread::spawn(move || {
+                let mut last = engine.state(&script).unwrap();
                 for n in 0..100 {
+                    let mut state = engine.state(&script).unwrap();
                     assert_eq!(state.call::<i64>("f", (n + k,)), Ok(2 * (n + k)));
+                    assert_eq!(last.call::<i64>("f", (n,)), Ok(2 * n));
+                    last = state;
                 }
-            });
-        }
-    });
+                drop(script);
+                last.call::<i64>("f", (k,))
+            })
+        })
+        .collect();
+    drop(script);
+    for (k, thread) in (0..4i64).zip(threads) {
+        assert_eq!(thread.join().unwrap(), Ok(2 * k));
+    }
 }
 
 #[test]
@@ -208,7 +315,9 @@ fn a_state_takes_no_more_memory_than_its_bounds_say() {
     for _ in 0..2 {
         match state.call::<()>("fill", ()) {
             Err(RunError::OutOfMemory) => {}
-            Err(RunError::Fault(text)) => assert!(text.starts_with("Out of memory"), "{text}"),
+            Err(RunError::Fault(fault)) => {
+                assert!(fault.text().starts_with("Out of memory"), "{fault}")
+            }
             other => panic!("{other:?}"),
         }
         assert!(state.memory() <= 1 << 20);

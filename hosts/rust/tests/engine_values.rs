@@ -1,5 +1,5 @@
 //! Values of scripts and of Rust.
-use grain::engine::{Engine, FromValue, IntoArguments, RunError, State, Value, WrongType};
+use grain::engine::{Engine, Foreign, FromValue, IntoArguments, RunError, State, Value, WrongType};
 use std::collections::{BTreeMap, HashMap};
 use std::fmt::Debug;
 
@@ -36,6 +36,11 @@ fn values_cross_both_ways() {
             name: "f".into(),
             bound: vec![1.into()],
         },
+        Foreign {
+            kind: i64::MIN,
+            number: i64::MAX,
+        }
+        .into(),
     ]);
     assert_eq!(state.call::<Value>("same", vec![value.clone()]), Ok(value));
     let mut deep = Value::Unit;
@@ -46,6 +51,44 @@ fn values_cross_both_ways() {
         state.call::<Value>("same", vec![deep]),
         Err(RunError::BadValue)
     );
+}
+
+/// Scripts tell values of the host apart, can't make one, and the state says which are gone.
+#[test]
+fn values_of_the_host_are_counted() {
+    let of = |number: i64| Foreign { kind: 1, number };
+    let engine = Engine::new();
+    let text = "
+        fn keep(x) { kept = x; type_of(x) }
+        fn is_kept(x) { x == kept }
+        fn pair(x) { kept = #{ a: [x], f: Fn(\"pair\").curry(x) }; }
+        fn switched(x) { switch x { 0..100 => 1, 9 => 2, _ => 3 } }
+        kept = ();
+    ";
+    let mut state = engine.state(&engine.compile(text).unwrap()).unwrap();
+    state.set("kept", ()).unwrap();
+    assert_eq!(state.call::<String>("keep", (of(7),)), Ok("foreign".into()));
+    assert_eq!(state.call::<bool>("is_kept", (of(7),)), Ok(true));
+    assert_eq!(state.call::<bool>("is_kept", (of(8),)), Ok(false));
+    assert_eq!(state.call::<i64>("switched", (of(9),)), Ok(3));
+    assert_eq!(state.dropped(), Ok(vec![of(7), of(8), of(9)]));
+    assert_eq!(state.dropped(), Ok(vec![]));
+    assert_eq!(state.get::<Foreign>("kept"), Ok(of(7)));
+    assert_eq!(
+        state.get::<Value>("kept").unwrap().to_string(),
+        "foreign(1, 7)"
+    );
+    assert_eq!(state.call::<()>("pair", (of(3),)), Ok(()));
+    assert_eq!(state.dropped(), Ok(vec![of(7)]));
+    // What is refused was never passed.
+    assert!(state.call::<()>("absent", (of(5),)).is_err());
+    assert!(state.set("absent", of(5)).is_err());
+    assert_eq!(state.dropped(), Ok(vec![]));
+    state.set("kept", ()).unwrap();
+    assert_eq!(state.dropped(), Ok(vec![of(3)]));
+    state.set("kept", vec![of(4), of(4)]).unwrap();
+    state.reset();
+    assert_eq!(state.dropped(), Ok(vec![of(4), of(4)]));
 }
 
 /// Whether a value of Rust is this one of scripts, and is itself again, also after a script had it.

@@ -4,7 +4,9 @@ mod common;
 
 use common::api::{engine_functions, public_functions, Function};
 use common::{bytes, sample_file, whole};
-use grain::engine::{CompileError, Engine, LoadError, RunError, State, Step as RunStep, Value};
+use grain::engine::{
+    CompileError, Engine, Foreign, LoadError, RunError, State, Step as RunStep, Value,
+};
 use grain::{
     explain, stream_sites, table_entries, tighten, verify, verify_into, Caps, Case, Chunk,
     ExplainError, Explained, FileError, Limits, Needs, PoolError, Pools, Positions, Program,
@@ -198,7 +200,7 @@ const FREE: [(&str, &str); 26] = [
 ];
 
 /// Calls of the module `engine` that take no memory of the library.
-const FREE_OF_ENGINE: [(&str, &str); 6] = [
+const FREE_OF_ENGINE: [(&str, &str); 7] = [
     (
         "Bounds",
         "calls memory new printed runs turns value_depth value_size",
@@ -207,6 +209,7 @@ const FREE_OF_ENGINE: [(&str, &str); 6] = [
         "Engine",
         "bounds declare interrupt new register register_method",
     ),
+    ("Fault", "address kind position text thrown"),
     ("Interrupt", "clear is_raised raise"),
     ("Script", "as_bytes"),
     ("State", "memory reset stop take_printed used"),
@@ -669,8 +672,8 @@ fn ran_out<T>(said: Result<T, RunError>) -> bool {
     match said {
         Ok(_) => false,
         Err(RunError::OutOfMemory) => true,
-        Err(RunError::Fault(text)) => {
-            assert!(text.starts_with("Out of memory"), "{text}");
+        Err(RunError::Fault(fault)) => {
+            assert!(fault.text().starts_with("Out of memory"), "{fault}");
             true
         }
         Err(error) => panic!("{error}"),
@@ -779,6 +782,20 @@ fn steps_of_a_state_answer_an_error() {
     });
     refuse_library("State::set", || ran_out(state.set("kept", list())));
     refuse_library("State::get", || ran_out(state.get::<Value>("kept")));
+    let of = |number| Foreign { kind: 1, number };
+    for number in 0..9 {
+        state.set("kept", of(number)).unwrap();
+    }
+    let mut gone = Vec::new();
+    refuse_library("State::dropped", || match state.dropped() {
+        Ok(dropped) => {
+            gone = dropped;
+            false
+        }
+        said => ran_out(said),
+    });
+    assert_eq!(gone, (0..8).map(of).collect::<Vec<_>>());
+    state.set("kept", list()).unwrap();
     assert_eq!(state.get("kept"), Ok(list()));
     goes_on(&mut state);
 }

@@ -75,8 +75,8 @@ fn an_answer_returns_throws_or_fails() {
         match (answer, state.step(1000)) {
             (Ok(value), step) => assert_eq!(step, Ok(Step::Returned(value))),
             (Err(HostError::Throw(value)), step) => assert_eq!(step, Ok(Step::Returned(value))),
-            (_, Err(RunError::Fault(text))) => {
-                assert!(text.contains("no network (line 3"), "{text}")
+            (_, Err(RunError::Fault(fault))) => {
+                assert!(fault.text().contains("no network (line 3"), "{fault}")
             }
             (_, other) => panic!("{other:?}"),
         }
@@ -129,9 +129,10 @@ fn a_declared_function_is_a_fault_without_steps() {
         state.call::<i64>("caught", (1,)).unwrap_err(),
     ];
     for (fault, line) in faults.iter().zip(["line 2", "line 3"]) {
-        let RunError::Fault(text) = fault else {
+        let RunError::Fault(fault) = fault else {
             panic!("{fault}")
         };
+        let text = fault.text();
         assert!(
             text.contains("no closure does `ask`") && text.contains(line),
             "{text}"
@@ -243,7 +244,7 @@ fn a_receiver_is_within_the_bounds() {
     assert_eq!(state.call::<i64>("grown", (50,)), Ok(50));
     assert!(matches!(
         state.call::<i64>("grown", (500,)),
-        Err(RunError::Fault(text)) if text.contains("the receiver isn't within the bounds")
+        Err(RunError::Fault(fault)) if fault.text().contains("the receiver isn't within the bounds")
     ));
     assert_eq!(state.call::<i64>("grown", (50,)), Ok(50));
 }

@@ -1,4 +1,5 @@
 //! Why scripts aren't compiled, loaded or run.
+use super::fault::Fault;
 use super::values::Value;
 use crate::{FileError, Refusal};
 use std::error::Error;
@@ -83,8 +84,8 @@ impl From<Refusal> for LoadError {
 #[derive(Clone, Debug, PartialEq, Eq, Hash)]
 #[non_exhaustive]
 pub enum RunError {
-    /// It failed: the fault with its line, and the calls that it ended, a line each.
-    Fault(String),
+    /// It failed.
+    Fault(Fault),
     /// All turns are used, or the interrupt was raised. [`State::resume`](super::State::resume) goes on; all other calls that begin
     /// a run are refused until then, or until [`State::stop`](super::State::stop).
     Paused,
@@ -105,7 +106,7 @@ pub enum RunError {
 impl fmt::Display for RunError {
     fn fmt(&self, f: &mut fmt::Formatter<'_>) -> fmt::Result {
         match self {
-            RunError::Fault(text) => f.write_str(text),
+            RunError::Fault(fault) => fault.fmt(f),
             RunError::Paused => f.write_str("out of turns"),
             RunError::NoName(name) => write!(f, "the script has no `{name}`"),
             RunError::NotNow => f.write_str("no run is at a point where this can be done"),

@@ -2,6 +2,7 @@
 use super::error::HostError;
 use super::state::State;
 use super::values::{FromValue, Value};
+use std::collections::{BTreeMap, HashMap};
 use std::marker::PhantomData;
 use std::sync::Arc;
 
@@ -43,6 +44,27 @@ pub(crate) enum Function {
     Closure(Closure),
     /// The host answers calls of it between two steps.
     Declared,
+}
+
+/// The functions of a host, by their names and numbers of arguments.
+#[derive(Clone, Default)]
+pub(crate) struct Functions(HashMap<String, BTreeMap<u32, Function>>);
+
+impl Functions {
+    pub(crate) fn insert(&mut self, name: &str, parameters: u32, function: Function) {
+        let named = self.0.entry(name.into()).or_default();
+        named.insert(parameters, function);
+    }
+
+    pub(crate) fn get(&self, name: &str, arguments: usize) -> Option<&Function> {
+        self.0.get(name)?.get(&u32::try_from(arguments).ok()?)
+    }
+
+    /// Their names and numbers of arguments.
+    pub(crate) fn keys(&self) -> impl Iterator<Item = (&str, u32)> {
+        let all = self.0.iter();
+        all.flat_map(|(name, named)| named.keys().map(move |parameters| (&**name, *parameters)))
+    }
 }
 
 /// What a function of the host returns: a value, or a `Result` of one.

@@ -1,13 +1,15 @@
 //! The library's states.
 use super::error::{CompileError, HostError, LoadError, RunError};
+use super::fault::Fault;
 use super::rows::{Reader, Rows};
 use super::script::Bounds;
-use super::step::Call;
 use super::values::Value;
 use crate::{raw, Caps, FileError, Limits, Refusal};
 use std::ffi::c_char;
 use std::ptr::{self, NonNull};
 use std::slice;
+use std::str;
+use std::sync::{Mutex, PoisonError};
 
 /// Room for the report of an error.
 const REPORT_SIZE: usize = 4096;
@@ -15,12 +17,54 @@ const REPORT_SIZE: usize = 4096;
 /// A state of the library, which frees it.
 pub(crate) struct Handle {
     state: NonNull<raw::State>,
+    /// Room for values that are passed.
+    rows: Rows,
 }
 
 impl Drop for Handle {
     fn drop(&mut self) {
         // SAFETY: the library made the state, and nothing else frees it.
         unsafe { raw::grain_state_free(self.state.as_ptr()) }
+    }
+}
+
+/// The state into which a script was compiled or read. It isn't run: other states are made of it.
+pub(crate) struct First(Mutex<Handle>);
+
+// SAFETY: the lock lets one thread at a time use the state. Other states share nothing of it but the program, whose owners the
+// library counts by atomic steps.
+unsafe impl Send for First {}
+// SAFETY: as above.
+unsafe impl Sync for First {}
+
+impl First {
+    pub(crate) fn new(handle: Handle) -> First {
+        First(Mutex::new(handle))
+    }
+
+    /// Another state of the same program, which both share.
+    pub(crate) fn another(&self, bounds: &Bounds) -> Result<Handle, RunError> {
+        let mut first = self.0.lock().unwrap_or_else(PoisonError::into_inner);
+        first.another(bounds)
+    }
+}
+
+/// What the library shows: the name of the function that it calls, and its arguments, or a value that a run returned.
+pub(crate) struct Shown<'a> {
+    name: &'a [u8],
+    rows: &'a [raw::Value],
+    texts: &'a [u8],
+    count: u32,
+}
+
+impl<'a> Shown<'a> {
+    /// The name, which the library has tested.
+    pub(crate) fn name(&self) -> &'a str {
+        str::from_utf8(self.name).unwrap_or_default()
+    }
+
+    pub(crate) fn values(&self) -> Vec<Value> {
+        Reader::new(self.rows, self.texts).values(self.count as usize)
     }
 }
 
@@ -39,6 +83,13 @@ fn text_of(write: impl Fn(*mut c_char, usize) -> usize) -> String {
 }
 
 impl Handle {
+    fn new(state: NonNull<raw::State>) -> Handle {
+        Handle {
+            state,
+            rows: Rows::default(),
+        }
+    }
+
     pub(crate) fn compile(text: &str, bounds: &Bounds) -> Result<Handle, CompileError> {
         let (mut state, mut report) = (ptr::null_mut(), vec![0u8; REPORT_SIZE]);
         // SAFETY: the text and the report are as long as is said, and what is written is valid.
@@ -53,7 +104,7 @@ impl Handle {
             )
         };
         match (status, NonNull::new(state)) {
-            (raw::ACCEPTED, Some(state)) => Ok(Handle { state }),
+            (raw::ACCEPTED, Some(state)) => Ok(Handle::new(state)),
             (raw::NO_SCRIPT, _) => {
                 let end = report.iter().position(|byte| *byte == 0);
                 report.truncate(end.unwrap_or(REPORT_SIZE));
@@ -89,7 +140,7 @@ impl Handle {
             )
         };
         match (status, NonNull::new(state)) {
-            (raw::ACCEPTED, Some(state)) => Ok(Handle { state }),
+            (raw::ACCEPTED, Some(state)) => Ok(Handle::new(state)),
             (raw::REFUSED, _) => Err(LoadError::Refused(Refusal::new(
                 report.refusal,
                 report.visited,
@@ -100,6 +151,17 @@ impl Handle {
             (raw::TOO_MUCH_WORK, _) => Err(LoadError::TooMuchWork),
             (raw::FOREIGN_CONSTANT, _) => Err(LoadError::ForeignConstant),
             _ => Err(LoadError::OutOfMemory),
+        }
+    }
+
+    fn another(&mut self, bounds: &Bounds) -> Result<Handle, RunError> {
+        let mut state = ptr::null_mut();
+        // SAFETY: the handle is valid, and what is written is.
+        let status =
+            unsafe { raw::grain_state_another(&mut state, self.state.as_ptr(), &bounds.raw()) };
+        match NonNull::new(state) {
+            Some(state) => Ok(Handle::new(state)),
+            None => Err(refused(status, "")),
         }
     }
 
@@ -135,10 +197,10 @@ impl Handle {
     }
 
     pub(crate) fn begin(&mut self, name: Option<&str>, arguments: &[Value]) -> u32 {
-        let rows = Rows::of(arguments);
+        let rows = self.rows.filled(arguments);
         let (at, len) = name.map_or((ptr::null(), 0), |name| (name.as_ptr().cast(), name.len()));
         // SAFETY: the name and the rows are as long as is said, and live until the call returns.
-        unsafe { raw::grain_state_begin(self.state.as_ptr(), at, len, &rows.raw()) }
+        unsafe { raw::grain_state_begin(self.state.as_ptr(), at, len, &rows) }
     }
 
     pub(crate) fn go(&mut self, turns: u64) -> (u32, u64) {
@@ -148,11 +210,11 @@ impl Handle {
         (event, used)
     }
 
-    /// The values that the library shows, copied.
+    /// What the library has shown in a record.
     ///
     /// # Safety
-    /// The library has written them, and was not called since.
-    unsafe fn copied(values: &raw::Values) -> Vec<Value> {
+    /// The library has written the values and the name since it was called last, and isn't called while the result lives.
+    unsafe fn shown<'a>(name: &'a [u8], values: &raw::Values) -> Shown<'a> {
         // SAFETY: by the above; the library's pointers are never null.
         let (rows, texts) = unsafe {
             (
@@ -160,32 +222,32 @@ impl Handle {
                 slice::from_raw_parts(values.texts, values.texts_len),
             )
         };
-        Reader::new(rows, texts).values(values.count as usize)
+        Shown {
+            name,
+            rows,
+            texts,
+            count: values.count,
+        }
     }
 
     /// The function that the last run calls, with its arguments, or the value that it returned.
-    pub(crate) fn asked(&mut self) -> Result<Call, RunError> {
+    pub(crate) fn asked(&mut self) -> Result<Shown<'_>, RunError> {
         let mut asked = raw::Asked::default();
         // SAFETY: the handle is valid.
         let status = unsafe { raw::grain_state_asked(self.state.as_ptr(), &mut asked) };
-        if status != raw::ACCEPTED {
-            return Err(refused(status, ""));
-        }
-        // SAFETY: the library has written the record, and is not called before it is copied.
+        done(status, "")?;
+        // SAFETY: the library has written the record, and isn't called while the handle is borrowed.
         unsafe {
             let name = slice::from_raw_parts(asked.name.cast::<u8>(), asked.name_len);
-            Ok(Call {
-                name: String::from_utf8_lossy(name).into_owned(),
-                arguments: Handle::copied(&asked.values),
-            })
+            Ok(Handle::shown(name, &asked.values))
         }
     }
 
     /// Replaces the receiver of the call for which the last run waits.
-    pub(crate) fn receiver(&mut self, value: Value) -> u32 {
-        let rows = Rows::of(&[value]);
+    pub(crate) fn receiver(&mut self, value: &Value) -> u32 {
+        let rows = self.rows.filled(slice::from_ref(value));
         // SAFETY: the rows are as long as is said, and live until the call returns.
-        unsafe { raw::grain_state_receiver(self.state.as_ptr(), &rows.raw()) }
+        unsafe { raw::grain_state_receiver(self.state.as_ptr(), &rows) }
     }
 
     /// Ends the call for which the last run waits.
@@ -193,14 +255,14 @@ impl Handle {
         let state = self.state.as_ptr();
         match answer {
             Ok(value) => {
-                let rows = Rows::of(&[value]);
+                let rows = self.rows.filled(slice::from_ref(&value));
                 // SAFETY: the rows are as long as is said, and live until the call returns.
-                unsafe { raw::grain_state_answer(state, &rows.raw()) }
+                unsafe { raw::grain_state_answer(state, &rows) }
             }
             Err(HostError::Throw(value)) => {
-                let rows = Rows::of(&[value]);
+                let rows = self.rows.filled(slice::from_ref(&value));
                 // SAFETY: as above.
-                unsafe { raw::grain_state_throw(state, &rows.raw()) }
+                unsafe { raw::grain_state_throw(state, &rows) }
             }
             // SAFETY: the text is as long as is said.
             Err(HostError::Fail(why)) => unsafe {
@@ -209,22 +271,25 @@ impl Handle {
         }
     }
 
-    pub(crate) fn fault(&mut self) -> String {
+    /// Why the last run failed. It has just done so.
+    pub(crate) fn fault(&mut self) -> Fault {
+        let mut failure = raw::Failure::default();
+        // SAFETY: the handle is valid, and what is written is.
+        let _written = unsafe { raw::grain_state_failure(self.state.as_ptr(), &mut failure) };
+        let thrown = self.asked().ok().and_then(|shown| shown.values().pop());
         // SAFETY: the library writes no more than there is room for.
-        text_of(|text, size| unsafe { raw::grain_state_fault(self.state.as_ptr(), text, size) })
+        let text = text_of(|text, size| unsafe {
+            raw::grain_state_fault(self.state.as_ptr(), text, size)
+        });
+        Fault::of(&failure, thrown, text)
     }
 
     /// Sets a variable.
-    pub(crate) fn set(&mut self, name: &str, value: Value) -> u32 {
-        let rows = Rows::of(&[value]);
+    pub(crate) fn set(&mut self, name: &str, value: &Value) -> u32 {
+        let rows = self.rows.filled(slice::from_ref(value));
         // SAFETY: the name and the rows are as long as is said, and live until the call returns.
         unsafe {
-            raw::grain_state_set(
-                self.state.as_ptr(),
-                name.as_ptr().cast(),
-                name.len(),
-                &rows.raw(),
-            )
+            raw::grain_state_set(self.state.as_ptr(), name.as_ptr().cast(), name.len(), &rows)
         }
     }
 
@@ -241,9 +306,19 @@ impl Handle {
             )
         };
         done(status, name)?;
-        // SAFETY: the library has written the record, and is not called before it is copied.
-        let mut values = unsafe { Handle::copied(&values) };
+        // SAFETY: the library has written the record, and is not called before the values are copied.
+        let mut values = unsafe { Handle::shown(&[], &values) }.values();
         Ok(values.pop().unwrap_or_default())
+    }
+
+    /// The values of the host's own of which no copy is left.
+    pub(crate) fn dropped(&mut self) -> Result<Vec<Value>, RunError> {
+        let mut values = raw::Values::default();
+        // SAFETY: the handle is valid.
+        let status = unsafe { raw::grain_state_dropped(self.state.as_ptr(), &mut values) };
+        done(status, "")?;
+        // SAFETY: the library has written the record, and is not called before the values are copied.
+        Ok(unsafe { Handle::shown(&[], &values) }.values())
     }
 
     /// How many bytes of memory the state has taken.

@@ -1,5 +1,5 @@
 //! Values as rows of the library, and back.
-use super::values::Value;
+use super::values::{Foreign, Value};
 use crate::raw;
 use std::collections::BTreeMap;
 
@@ -8,27 +8,21 @@ use std::collections::BTreeMap;
 pub(crate) struct Rows {
     rows: Vec<raw::Value>,
     texts: Vec<u8>,
-    count: u32,
 }
 
 impl Rows {
-    pub(crate) fn of(values: &[Value]) -> Rows {
-        let mut rows = Rows::default();
-        for value in values {
-            rows.add(value);
-            rows.count += 1;
-        }
-        rows
-    }
-
-    /// What the library takes. It is read while `self` lives and isn't changed.
-    pub(crate) fn raw(&self) -> raw::Values {
+    /// Those of these values, as the library takes them: until `self` is filled with others.
+    pub(crate) fn filled(&mut self, values: &[Value]) -> raw::Values {
+        self.rows.clear();
+        self.texts.clear();
+        self.add_all(values);
         raw::Values {
             rows: self.rows.as_ptr(),
             rows_len: self.rows.len(),
             texts: self.texts.as_ptr(),
             texts_len: self.texts.len(),
-            count: self.count,
+            // More values than a count can say are refused.
+            count: u32::try_from(values.len()).unwrap_or(u32::MAX),
         }
     }
 
@@ -81,6 +75,12 @@ impl Rows {
                     self.push_bytes(raw::VALUE_TEXT, key.as_bytes());
                     self.add(value);
                 }
+            }
+            Value::Foreign(Foreign { kind, number }) => {
+                self.push(raw::VALUE_SHARED, 0, 0);
+                self.push(raw::VALUE_RANGE, 0, 0);
+                self.push(raw::VALUE_INTEGER, 0, *kind);
+                self.push(raw::VALUE_INTEGER, 0, *number);
             }
             Value::Function { name, bound } => {
                 self.push(raw::VALUE_FN_PTR, bound.len(), 0);
@@ -159,6 +159,13 @@ impl<'a> Reader<'a> {
             raw::VALUE_ARRAY => Value::Array(self.values(count)),
             raw::VALUE_BLOB => Value::Blob(self.bytes(row).to_vec()),
             raw::VALUE_MAP => Value::Map(self.entries(count)),
+            raw::VALUE_SHARED => {
+                let _range = self.row();
+                Value::Foreign(Foreign {
+                    kind: self.number(),
+                    number: self.number(),
+                })
+            }
             raw::VALUE_FN_PTR => Value::Function {
                 name: self.name(),
                 bound: self.values(count),

@@ -1,13 +1,13 @@
 //! Engines and scripts.
 use super::error::{CompileError, LoadError, RunError};
-use super::functions::{Closure, Function, IntoFunction, IntoMethod, Served};
-use super::handle::Handle;
+use super::functions::{Closure, Function, Functions, IntoFunction, IntoMethod, Served};
+use super::handle::{First, Handle};
 use super::state::State;
 use super::values::FromValue;
 use crate::{raw, Caps, Limits};
-use std::collections::HashMap;
 use std::error::Error;
 use std::fmt;
+use std::hash::{Hash, Hasher};
 use std::sync::atomic::{AtomicBool, Ordering};
 use std::sync::Arc;
 
@@ -33,7 +33,7 @@ pub struct Bounds {
     pub value_depth: usize,
     /// How many bytes of output are kept until they are taken.
     pub printed: usize,
-    /// How many bytes of memory the library takes for a state at most, its program among them.
+    /// How many bytes of memory the library takes for a state at most, and how many to compile or to read a script.
     pub memory: usize,
 }
 
@@ -146,8 +146,8 @@ impl Interrupt {
 /// Functions of the host, and bounds. A state keeps those that its engine had when it was made.
 #[derive(Clone, Default)]
 pub struct Engine {
-    /// By the name and the number of arguments. States share them.
-    pub(crate) functions: Arc<HashMap<(String, u32), Function>>,
+    /// States share them.
+    pub(crate) functions: Arc<Functions>,
     pub(crate) bounds: Bounds,
     pub(crate) interrupt: Interrupt,
 }
@@ -155,7 +155,7 @@ pub struct Engine {
 impl fmt::Debug for Engine {
     fn fmt(&self, f: &mut fmt::Formatter<'_>) -> fmt::Result {
         f.debug_struct("Engine")
-            .field("functions", &self.functions.keys())
+            .field("functions", &self.functions.keys().collect::<Vec<_>>())
             .field("bounds", &self.bounds)
             .field("interrupt", &self.interrupt)
             .finish()
@@ -214,7 +214,7 @@ impl Engine {
 
     fn insert(&mut self, name: &str, parameters: u32, function: Function) -> &mut Engine {
         let functions = Arc::make_mut(&mut self.functions);
-        functions.insert((name.into(), parameters), function);
+        functions.insert(name, parameters, function);
         self
     }
 
@@ -237,7 +237,7 @@ impl Engine {
     pub fn compile(&self, text: &str) -> Result<Script, CompileError> {
         let handle = Handle::compile(text, &self.bounds)?;
         match handle.file() {
-            Some(file) => Ok(Script { file: file.into() }),
+            Some(file) => Ok(Script::new(file, handle)),
             None => Err(CompileError::OutOfMemory),
         }
     }
@@ -247,25 +247,17 @@ impl Engine {
     /// # Errors
     /// The bytes aren't a program file, or the program is refused.
     pub fn load(&self, bytes: &[u8]) -> Result<Script, LoadError> {
-        let _accepted = Handle::load(bytes, Caps::ALL, &Limits::new(), &self.bounds)?;
-        Ok(Script { file: bytes.into() })
+        let handle = Handle::load(bytes, Caps::ALL, &Limits::new(), &self.bounds)?;
+        Ok(Script::new(bytes, handle))
     }
 
-    /// A state of a script, which has no variables. It verifies the script's file again.
+    /// A state of a script, which has no variables. It shares the script's program.
     ///
     /// # Errors
     /// Out of memory, or the bound on nesting is above 256.
     pub fn state(&self, script: &Script) -> Result<State, RunError> {
-        match Handle::load(
-            &script.file,
-            Caps::ALL,
-            &Limits::new().size(usize::MAX),
-            &self.bounds,
-        ) {
-            Ok(handle) => State::new(handle, Arc::new(self.clone())),
-            Err(LoadError::OutOfMemory) => Err(RunError::OutOfMemory),
-            Err(_) => Err(RunError::BadValue),
-        }
+        let handle = script.first.another(&self.bounds)?;
+        State::new(handle, Arc::new(self.clone()))
     }
 
     /// The value of a text that is compiled and run once.
@@ -278,10 +270,26 @@ impl Engine {
     }
 }
 
-/// An accepted program, as the bytes of its program file. Threads may share it.
-#[derive(Clone, PartialEq, Eq, Hash)]
+/// An accepted program, which its states share. Threads may share it too.
+#[derive(Clone)]
 pub struct Script {
     file: Arc<[u8]>,
+    first: Arc<First>,
+}
+
+/// Scripts are equal if their program files are.
+impl PartialEq for Script {
+    fn eq(&self, other: &Script) -> bool {
+        self.file == other.file
+    }
+}
+
+impl Eq for Script {}
+
+impl Hash for Script {
+    fn hash<H: Hasher>(&self, state: &mut H) {
+        self.file.hash(state);
+    }
 }
 
 impl fmt::Debug for Script {
@@ -299,6 +307,13 @@ impl AsRef<[u8]> for Script {
 }
 
 impl Script {
+    fn new(file: impl Into<Arc<[u8]>>, handle: Handle) -> Script {
+        Script {
+            file: file.into(),
+            first: Arc::new(First::new(handle)),
+        }
+    }
+
     /// The bytes of the program file, for [`Engine::load`].
     #[must_use]
     pub fn as_bytes(&self) -> &[u8] {

@@ -4,7 +4,7 @@ use super::functions::{Closure, Function, IntoAnswer, Served};
 use super::handle::{done, Handle};
 use super::script::Engine;
 use super::step::{Call, Step};
-use super::values::{FromValue, IntoArguments, Value};
+use super::values::{Foreign, FromValue, IntoArguments, Value};
 use crate::raw;
 use std::fmt;
 use std::mem;
@@ -104,7 +104,7 @@ impl Drop for Guard<'_> {
 impl State {
     pub(crate) fn new(mut handle: Handle, engine: Arc<Engine>) -> Result<State, RunError> {
         for (name, parameters) in engine.functions.keys() {
-            done(handle.register(name, *parameters), name)?;
+            done(handle.register(name, parameters), name)?;
         }
         Ok(State {
             handle,
@@ -209,7 +209,7 @@ impl State {
     /// - [`RunError::BadValue`]: the value isn't within the bounds.
     /// - Out of memory. With any error nothing has changed.
     pub fn set_receiver(&mut self, value: impl Into<Value>) -> Result<(), RunError> {
-        done(self.handle.receiver(value.into()), "")
+        done(self.handle.receiver(&value.into()), "")
     }
 
     /// Ends the last run, if it is paused or waits for an answer. A closure can't end the run that called it.
@@ -231,15 +231,36 @@ impl State {
     /// # Errors
     /// The script has no such name, or the value isn't within the bounds.
     pub fn set(&mut self, name: &str, value: impl Into<Value>) -> Result<(), RunError> {
-        done(self.handle.set(name, value.into()), name)
+        done(self.handle.set(name, &value.into()), name)
     }
 
-    /// The value of a variable that is found by its name.
+    /// The value of a variable that scripts find by its name. If there is none, it is the value that a variable of the top level had
+    /// at the end of the last run: of one that is declared outside of blocks, and by the last `let` of its name.
+    ///
+    /// ```
+    /// use grain::engine::Engine;
+    ///
+    /// let engine = Engine::new();
+    /// let mut state = engine.state(&engine.compile("let x = 6; let y = x + 1; x *= y;")?)?;
+    /// state.run::<()>()?;
+    /// assert_eq!((state.get::<i64>("x")?, state.get::<i64>("y")?), (42, 7));
+    /// # Ok::<(), Box<dyn std::error::Error>>(())
+    /// ```
     ///
     /// # Errors
     /// There is none, or it is of another type.
     pub fn get<T: FromValue>(&mut self, name: &str) -> Result<T, RunError> {
         Ok(T::from_value(self.handle.get(name)?)?)
+    }
+
+    /// The values of the host's own of which the state has no copy left, each as often as it was passed. The state forgets them. Until
+    /// then it remembers each of them, in its memory.
+    ///
+    /// # Errors
+    /// Out of memory: it forgets none.
+    pub fn dropped(&mut self) -> Result<Vec<Foreign>, RunError> {
+        let values = self.handle.dropped()?.into_iter();
+        Ok(values.map(Foreign::from_value).collect::<Result<_, _>>()?)
     }
 
     /// What was printed since it was last taken, each line with its line feed.
@@ -253,7 +274,7 @@ impl State {
         self.used
     }
 
-    /// How many bytes of memory the library has taken for the state, its program among them.
+    /// How many bytes of memory the library has taken for the state. Its program belongs to the script.
     #[must_use]
     pub fn memory(&self) -> usize {
         self.handle.memory()
@@ -303,7 +324,7 @@ impl State {
     fn asked_again(&mut self) -> Result<Step, RunError> {
         self.handle.go(0);
         match self.handle.asked() {
-            Ok(call) => Ok(Step::Calls(call)),
+            Ok(shown) => Ok(Step::Calls(Call::of(shown.name(), shown.values()))),
             Err(error) => {
                 self.end();
                 Err(error)
@@ -318,19 +339,13 @@ impl State {
         number: u64,
         caller: Caller,
     ) -> Result<Option<Call>, RunError> {
-        let call = self.handle.asked()?;
-        let key = (call.name, call.arguments.len() as u32);
-        let served = match engine.functions.get(&key) {
-            Some(Function::Closure(closure)) => self.served(closure, call.arguments, number)?,
-            _ if caller == Caller::Steps => {
-                return Ok(Some(Call {
-                    name: key.0,
-                    arguments: call.arguments,
-                }))
-            }
+        let shown = self.handle.asked()?;
+        let (name, arguments) = (shown.name(), shown.values());
+        let served = match engine.functions.get(name, arguments.len()) {
+            Some(Function::Closure(closure)) => self.served(closure, arguments, number)?,
+            _ if caller == Caller::Steps => return Ok(Some(Call::of(name, arguments))),
             _ => Served::function(Err(HostError::Fail(format!(
-                "no closure does `{}`, and the run isn't taken by steps",
-                key.0
+                "no closure does `{name}`, and the run isn't taken by steps"
             )))),
         };
         self.finish(served)?;
@@ -356,7 +371,7 @@ impl State {
 
     /// Ends the call for which the last run waits. It fails if its value or its receiver isn't within the bounds.
     fn finish(&mut self, served: Served) -> Result<(), RunError> {
-        let answer = match served.receiver.map(|value| self.handle.receiver(value)) {
+        let answer = match served.receiver.map(|value| self.handle.receiver(&value)) {
             // A value that isn't a variable's has nowhere to go.
             None | Some(raw::ACCEPTED | raw::NOT_NOW) => served.answer,
             Some(raw::BAD_VALUE) => Err(HostError::Fail(
@@ -426,7 +441,7 @@ impl State {
     fn ended(&mut self, event: u32) -> Result<Step, RunError> {
         match event {
             raw::EVENT_RETURNED => {
-                let value = self.handle.asked()?.arguments.pop();
+                let value = self.handle.asked()?.values().pop();
                 Ok(Step::Returned(value.ok_or(RunError::BadValue)?))
             }
             raw::EVENT_FAULTED => Err(RunError::Fault(self.handle.fault())),

@@ -23,3 +23,12 @@ pub struct Call {
     /// The arguments, the receiver of a method first.
     pub arguments: Vec<Value>,
 }
+
+impl Call {
+    pub(crate) fn of(name: &str, arguments: Vec<Value>) -> Call {
+        Call {
+            name: name.into(),
+            arguments,
+        }
+    }
+}

@@ -46,6 +46,8 @@ pub enum Value {
     Blob(Vec<u8>),
     /// An object map.
     Map(BTreeMap<String, Value>),
+    /// A value of the host's own.
+    Foreign(Foreign),
     /// A function of the script by its name, with the first arguments of its calls.
     Function {
         /// The name.
@@ -53,6 +55,30 @@ pub enum Value {
         /// The arguments that are bound.
         bound: Vec<Value>,
     },
+}
+
+/// A value of the host's own, such as an entity or an open file. Scripts pass it on and compare it, and can't make one: so one that
+/// comes from a script is one that the host passed.
+///
+/// ```
+/// use grain::engine::{Engine, Foreign};
+///
+/// const SOUND: i64 = 1;
+/// let mut engine = Engine::new();
+/// engine.register("sound", |number: i64| Foreign { kind: SOUND, number });
+/// engine.register("play", |sound: Foreign| format!("sound {}", sound.number));
+/// let mut state = engine.state(&engine.compile("fn f() { let a = sound(7); play(a) } f()")?)?;
+/// assert_eq!(state.run::<String>()?, "sound 7");
+/// // The function has ended, and no variable of the state has the value.
+/// assert_eq!(state.dropped()?, [Foreign { kind: SOUND, number: 7 }]);
+/// # Ok::<(), Box<dyn std::error::Error>>(())
+/// ```
+#[derive(Clone, Copy, Debug, PartialEq, Eq, Hash)]
+pub struct Foreign {
+    /// Of which kind it is. The host knows what it means.
+    pub kind: i64,
+    /// Which one of its kind it is.
+    pub number: i64,
 }
 
 impl Value {
@@ -70,6 +96,7 @@ impl Value {
             Value::Blob(_) => "blob",
             Value::Map(_) => "map",
             Value::Function { .. } => "Fn",
+            Value::Foreign(_) => "foreign",
         }
     }
 }
@@ -110,6 +137,7 @@ fn write_part(value: &Value, f: &mut fmt::Formatter<'_>) -> fmt::Result {
             write_part(value, f)
         }),
         Value::Function { name, .. } => write!(f, "Fn({name})"),
+        Value::Foreign(Foreign { kind, number }) => write!(f, "foreign({kind}, {number})"),
     }
 }
 
@@ -177,6 +205,7 @@ converts! {
     char, "char", Char;
     String, "string", Text;
     Vec<u8>, "blob", Blob;
+    Foreign, "foreign", Foreign;
 }
 
 macro_rules! integers {
@@ -388,6 +417,7 @@ tries! {
     [] Range<i64>;
     [] RangeInclusive<i64>;
     [] Vec<u8>;
+    [] Foreign;
     [T] Vec<T>;
     [T] BTreeMap<String, T>;
     [T] HashMap<String, T>;

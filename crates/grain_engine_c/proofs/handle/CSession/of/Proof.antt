@@ -1,11 +1,11 @@
 -- `of` takes the box apart, and forgets its allocator and its type.
 use contract.Monad.{fact_i}
 use types.Kit.{use0}
-use Rattle.grain_engine_c.proofs.Words.{word, ◌≡◌, keep, Heap, Heap-laws, no_drop, static, passes, List, [], ◌∷◌, ◌++◌, refl, true, ap, Goes-blank, proved_at, leaves, ftrue, flft}
-use Rattle.grain_engine_c.proofs.Words.{full_share, sep, emp, via, mono_l, id⊢, ◌⊑◌, fact, Running, tables, Dict, impl, tnil, dnil, method, no_args, Val, Ura, Logic, sem, ‵, raw, ◌⊛◌, some, later, prop, Sq, ◌$◌, ◌∵◌, !, qed}
-use Rattle.grain_engine_c.proofs.Words.{by, done, move, drop, split, join, fsplit, fjoin, feq_l, pick, show, frame, updating, now, use1, await, enter, of_opd, true_lit, no_more, and_then, returns, alloc_all, pass_all}
-use Rattle.grain_engine_c.proofs.Words.{free_all, look_at, get, sets, lands_as, agg, unit, RawPtr, no, yes, layout, glues, owns, Ptr, rawptr_Lawful, types_at, plain, nothing, only, calls_at, alive, triple_of, Back, framed}
-use Rattle.grain_engine_c.proofs.Words.{widened, run_framed, Stays, stay_dropped, walk_of, ghosts, dict, passed}
+use Rattle.grain_engine_c.proofs.Words.{word, ◌≡◌, keep, Heap, Heap-laws, no_drop, static, passes, List, [], ◌∷◌, ◌++◌, refl, true, ap, Goes-blank, proved_at, leaves, ftrue}
+use Rattle.grain_engine_c.proofs.Words.{full_share, emp, id⊢, fact, tables, Dict, impl, tnil, dnil, method, no_args, Val, ‵, raw, ◌⊛◌, some, later, prop, Sq, ◌$◌, ◌∵◌, !, qed}
+use Rattle.grain_engine_c.proofs.Words.{by, move, drop, split, join, fsplit, fjoin, feq_l, pick, use1, await, enter, of_opd, true_lit, no_more, and_then, returns, alloc_all, pass_all}
+use Rattle.grain_engine_c.proofs.Words.{free_all, look_at, get, sets, lands_as, agg, RawPtr, no, layout, glues, owns, Ptr, rawptr_Lawful, types_at, plain, nothing, only, calls_at, alive, triple_of, framed}
+use Rattle.grain_engine_c.proofs.Words.{widened, Stays, stay_dropped, walk_of, ghosts, dict, passed}
 use Rattle.grain_engine_c.proofs.SessionWords.{Kept, Kept-laws, Boxed, Boxed-typed, makes_handle}
 use Rattle.grain_engine_c.proofs.DropGlue.{drop_glue}
 use Rattle.std.proofs.ResultValues.{and_tt}
