@@ -117,6 +117,13 @@ class State {
         return *this;
     }
 
+    // Another state of the same script, which shares its program and has no functions yet.
+    State another(const grain_bounds &bounds = GRAIN_BOUNDS_DEFAULT) {
+        grain_state *made = nullptr;
+        check(grain_state_another(&made, state_, &bounds));
+        return State(made);
+    }
+
     grain_state *get() { return state_; }
 
     void add(const std::string &name, std::uint32_t parameters, Function function) {
@@ -170,6 +177,7 @@ class State {
     }
 
   private:
+    explicit State(grain_state *state) : state_(state) {}
     static void check(grain_status status) {
         if (status == GRAIN_OUT_OF_MEMORY)
             throw std::bad_alloc();
