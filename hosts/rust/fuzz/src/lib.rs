@@ -79,7 +79,7 @@ fn is_granted() -> bool {
     }
 }
 
-/// A block whose last byte, except for its alignment, stands before a page that can't be touched.
+/// A block that ends, except for its alignment, at a page that can't be touched.
 fn fenced(size: usize, align: usize) -> *mut u8 {
     let size = size.next_multiple_of(align);
     let room = (size + HEAD).next_multiple_of(PAGE);
@@ -120,7 +120,7 @@ fn made(size: usize, align: usize) -> *mut u8 {
 /// [`made`] made the block.
 unsafe fn freed(block: *mut u8) {
     LIVE.fetch_sub(1, Relaxed);
-    // SAFETY: the head stands before the block, and says of which kind it is.
+    // SAFETY: the head is in front of the block, and has the kind of the block.
     unsafe {
         let head = block.sub(HEAD);
         match head.cast::<usize>().read_unaligned() {

@@ -78,7 +78,7 @@ impl Fault {
         self.kind
     }
 
-    /// The line and the column, counted from 1, if the program has positions. A column of 0 stands for the line as a whole.
+    /// The line and the column, counted from 1, if the program has positions. A column of 0 means the line as a whole.
     #[must_use]
     pub fn position(&self) -> Option<(u32, u32)> {
         (self.line > 0).then_some((self.line, self.column))
