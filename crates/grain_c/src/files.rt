@@ -1,5 +1,5 @@
 //! Program files.
-ghost use Rattle.std.specs.Prelude.{◌≡◌, ◌≢◌, ◌≤◌, true};
+ghost use Rattle.std.specs.Prelude.{◌≡◌, ◌≢◌, ◌≤◌, true, false};
 ghost use Rattle.grain.specs.Program.{Program, input_of};
 ghost use Rattle.grain_c.specs.Files.{IsFileAnswer, IsReadAnswer, IsStopAnswer, limits_of};
 ghost use Rattle.grain_file.specs.Loading.{IsFileOf, IsLoadable};
@@ -120,7 +120,9 @@ pub extern "C" fn grain_proved_file_read<'a>(
 
 /// Frees what the handle keeps. It may be used again.
 #[unsafe(no_mangle)]
-pub extern "C" fn grain_proved_file_free(alloc: Global, file: &mut CHeldFile) {
+pub extern "C" fn grain_proved_file_free(alloc: Global, file: &mut CHeldFile)
+    ensures { file.new.made ≡ false }
+{
     file.clear(alloc);
 }
 

@@ -44,13 +44,13 @@ kind_number kinds.Host = faults.HOST
 kind_number kinds.Unsupported = faults.UNSUPPORTED
 
 -- a line or a column, and 0 if it isn't known
-abbrev pub number_or_none : Option ℕ → ℕ
-number_or_none None = 0
-number_or_none (Some n) = n
+abbrev pub number_or_zero : Option ℕ → ℕ
+number_or_zero None = 0
+number_or_zero (Some n) = n
 
 -- the record says what the failure does
 pub record IsFailureRecord (c : CFailure) (failure : RunFailure) : Type 0 where
   pub kind : c.kind ≡ kind_number failure.kind
-  pub line : c.line ≡ number_or_none (line_of failure.position)
-  pub column : c.column ≡ number_or_none (column_of failure.position)
+  pub line : c.line ≡ number_or_zero (line_of failure.position)
+  pub column : c.column ≡ number_or_zero (column_of failure.position)
   pub at : c.at ≡ failure.at

@@ -1,6 +1,6 @@
 //! Why and where runs failed, by number.
 ghost use Rattle.std.specs.Prelude.{◌≡◌, ◌<◌, ◌^◌, ◌↔◌, IfSome, MatchOption, None, true, false};
-ghost use Rattle.grain_engine_c.specs.Numbers.{IsFailureRecord, kind_number, number_or_none};
+ghost use Rattle.grain_engine_c.specs.Numbers.{IsFailureRecord, kind_number, number_or_zero};
 
 use crate::handle::CSession;
 use crate::records::CFailure;
@@ -70,7 +70,7 @@ fn number_of(kind: FaultKind) -> u32
 /// A line or a column, and 0 if it isn't known.
 fn number_or_zero(number: Option<usize>) -> u32
     requires { IfSome number (λ n. n < 2 ^ 16) }
-    ensures { result ≡ number_or_none number }
+    ensures { result ≡ number_or_zero number }
 {
     match number {
         Some(number) => number as u32,

@@ -1,4 +1,4 @@
--- Literals: what the bytes up to the quote that ends one stand for.
+-- Literals, and the bytes that they encode.
 use Rattle.std.specs.Prelude.{◌≡◌, ◌≢◌, ◌+◌, ◌*◌, ◌<◌, ◌⊎◌, ℕ, List, [], ◌∷◌}
 use Rattle.std.specs.Char.{digit_value}
 use Rattle.grain_lexer.specs.Blanks.{ReadsText, unblanked}
@@ -14,7 +14,7 @@ pub record IsOfDigits (high low b : ℕ) : Type 0 where
 pub data WritesByte : List ℕ → ℕ → List ℕ → Type 0 where
   of_digits : {high low b : ℕ} {more : List ℕ} → IsOfDigits high low b → WritesByte (high ∷ (low ∷ more)) b more
 
--- what follows a backslash stands for a byte, and more follows it
+-- the bytes after a backslash encode this byte, and more follows
 pub data IsEscape : List ℕ → ℕ → List ℕ → Type 0 where
   line_feed : {more : List ℕ} → IsEscape (110 ∷ more) 10 more
   carriage_return : {more : List ℕ} → IsEscape (114 ∷ more) 13 more
@@ -23,12 +23,12 @@ pub data IsEscape : List ℕ → ℕ → List ℕ → Type 0 where
   itself : {b : ℕ} {more : List ℕ} → (b ≡ 34) ⊎ ((b ≡ 39) ⊎ (b ≡ 92)) → IsEscape (b ∷ more) b more
   hexadecimal : {b : ℕ} {left more : List ℕ} → WritesByte left b more → IsEscape (120 ∷ left) b more
 
--- a byte, or an escape, stands for a byte, and more follows it
+-- a plain byte or an escape encodes this byte, and more follows
 pub data IsUnit (quote : ℕ) : List ℕ → ℕ → List ℕ → Type 0 where
   plain : {b : ℕ} {more : List ℕ} → b ≢ quote → b ≢ 92 → IsUnit quote (b ∷ more) b more
   escaped : {b : ℕ} {left more : List ℕ} → IsEscape left b more → IsUnit quote (92 ∷ left) b more
 
--- what is left of a literal stands for these bytes, and more follows its quote
+-- the rest of a literal encodes these bytes, and more follows its quote
 pub data IsLiteral (quote : ℕ) : List ℕ → List ℕ → List ℕ → Type 0 where
   ends : {more : List ℕ} → IsLiteral quote (quote ∷ more) [] more
   unit : {b : ℕ} {text left bytes more : List ℕ} → IsUnit quote text b left → IsLiteral quote left bytes more

@@ -6,7 +6,7 @@ use Rattle.std.specs.List.{starts_with}
 use Rattle.std.specs.Str.Parse.{IsNumeral, digits_value, signed_digits_value, without_leading_plus}
 use Rattle.grain_lexer.specs.Blanks.{ReadsText, unblanked}
 
--- 0x stands before hexadecimal digits
+-- hexadecimal digits follow 0x
 abbrev pub is_hexadecimal : List ℕ → Bool
 is_hexadecimal text = starts_with nat_eq text (48 ∷ 120 ∷ [])
 

@@ -17,7 +17,7 @@ fn escaped_byte(high: u8, low: u8) -> Option<u8>
     if byte.is_ascii() { Some(byte) } else { None }
 }
 
-/// The byte that the first two bytes write as hexadecimal digits, and what is left behind them.
+/// The byte that the first two bytes write as hexadecimal digits, and the bytes after them.
 fn digits_in(text: &[u8]) -> Option<(u8, &[u8])>
     ensures { IfSome result (λ found. WritesByte text.now found.0 found.1.now) }
 {
@@ -27,7 +27,7 @@ fn digits_in(text: &[u8]) -> Option<(u8, &[u8])>
     }
 }
 
-/// The byte for which what follows a backslash stands, and what is left behind it.
+/// The byte that an escape after its backslash encodes, and the bytes after it.
 fn escape_in(text: &[u8]) -> Option<(u8, &[u8])>
     ensures { IfSome result (λ found. IsEscape text.now found.0 found.1.now) }
 {

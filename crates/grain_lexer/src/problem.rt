@@ -23,10 +23,10 @@ pub enum LineProblem {
     /// A word begins no line of the section.
     #[error("this begins no line of the section")]
     Word,
-    /// There is no instruction of this name.
+    /// No instruction has the name.
     #[error("no such instruction")]
     Mnemonic,
-    /// There is no label of this name.
+    /// No label has the name.
     #[error("no such label")]
     UnknownLabel,
     /// A label is defined twice.
@@ -83,13 +83,13 @@ pub enum LineProblem {
     /// A case or a range comes before any switch.
     #[error("no switch before this")]
     NoSwitch,
-    /// There is no operator of this spelling.
+    /// The text is no operator.
     #[error("no such operator")]
     NotOperator,
-    /// There is no op-assignment of this spelling.
+    /// The text is no op-assignment.
     #[error("no such op-assignment")]
     NotAssignOp,
-    /// There is no capability of this name.
+    /// No capability has the name.
     #[error("no such capability")]
     NotCapability,
     /// A position has line 0.

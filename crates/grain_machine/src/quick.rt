@@ -30,9 +30,10 @@ impl<'a> Runnable<'a> {
             Op::Call { .. } | Op::Chain(_) => {
                 self.quick_give(frame, host, &here.op, next, here.takes as usize)
             }
-            Op::AssignLocal { .. } | Op::StoreLocal { .. } | Op::DeclareLocal { .. } => {
-                self.quick_take(frame, host, &here.op, next, 1)
-            }
+            Op::AssignLocal { .. }
+            | Op::StoreLocal { .. }
+            | Op::StoreShared(_)
+            | Op::DeclareLocal { .. } => self.quick_take(frame, host, &here.op, next, 1),
             Op::Tick | Op::Checkpoint | Op::Statement { .. } => {
                 self.quick_take(frame, host, &here.op, next, 0)
             }

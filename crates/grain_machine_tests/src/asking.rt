@@ -25,8 +25,8 @@ impl World for Asker {
         Ok(())
     }
 
-    fn is_awaited(&mut self, name: &str, arguments: &[Value]) -> bool {
-        name == "ask" && arguments.len() == 1
+    fn is_awaited(&mut self, name: &str, arguments: usize) -> bool {
+        name == "ask" && arguments == 1
     }
 }
 

@@ -9,12 +9,12 @@ use Rattle.rhai_runtime.specs.Named.{LacksFunction}
 use Rattle.rhai_engine.specs.declared.event.BeginError.{BeginError}
 use Rattle.rhai_engine.specs.declared.event.BeginError.TheVariants as refusals
 
--- the chunk that stands for a function among those of the program is its chunk
+-- the chunk of a function, by its index among the chunks of the program
 pub function_chunk : (p : Program) (index : ℕ) (function : Function) (chunk : Span) → slice_get p.functions index ≡ Some function → slice_get (chunks_of p) (index + 1) ≡ Some chunk → function.chunk ≡ chunk
 function_chunk p index function chunk there among =
     grind (arith, common_steps, there, among, slice_get-map (λ (f : Function). f.chunk) p.functions index)
 
--- what a call gives that has found the function isn't that there is none
+-- a call that has found the function doesn't say that there is none
 pub found_otherwise : (p q : Program) (name : List ℕ) (count params index : ℕ) (given : Result (Unit {0}) BeginError)
     → q ≡ p
     → count ≡ params

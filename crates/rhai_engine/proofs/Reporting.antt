@@ -7,7 +7,7 @@ use Rattle.grain_machine.specs.declared.step.Outcome.{Outcome}
 use Rattle.grain_machine.specs.declared.step.Outcome.TheVariants as outcomes
 use Rattle.rhai_values.specs.declared.value.Value.{Value}
 use Rattle.rhai_values.specs.declared.walk.Walk.{Walk}
-use Rattle.rhai_runtime.specs.declared.fault.Fault.{Fault}
+use Rattle.rhai_chains.specs.declared.fault.Fault.{Fault}
 use Rattle.rhai_engine.specs.Ends.{CanEnd, EndsRun, event_of}
 use Rattle.rhai_engine.specs.Runs.{Continues, IsLast, KeepsStage, MayBegin, stage_chunks, outer_chunks, run_chunks, session, stage_status}
 use Rattle.rhai_engine.specs.Session.{EndsLast, Reports, Session, with_run, outside_of}

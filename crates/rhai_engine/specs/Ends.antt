@@ -8,7 +8,7 @@ use Rattle.grain_machine.specs.declared.step.Outcome.TheVariants as outcomes
 use Rattle.rhai_values.specs.declared.value.Value.{Value}
 use Rattle.rhai_values.specs.declared.value.Value.TheVariants as values
 use Rattle.rhai_values.specs.declared.walk.Walk.{Walk}
-use Rattle.rhai_runtime.specs.declared.fault.Fault.{Fault}
+use Rattle.rhai_chains.specs.declared.fault.Fault.{Fault}
 use Rattle.rhai_engine.specs.declared.event.BeginError.{BeginError}
 use Rattle.rhai_engine.specs.declared.event.BeginError.TheVariants as refusals
 use Rattle.rhai_engine.specs.declared.event.Event.{Event}

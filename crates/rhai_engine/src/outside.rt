@@ -1,7 +1,7 @@
 //! The world of scripts in the process of a host.
 
 use rhai_runtime::World;
-use rhai_values::{Cause, Value};
+use rhai_values::Cause;
 use std::alloc::{AllocError, Global};
 use std::collections::BTreeMap;
 
@@ -69,9 +69,9 @@ impl World for Outside {
         self.print(line)
     }
 
-    fn is_awaited(&mut self, name: &str, arguments: &[Value]) -> bool {
+    fn is_awaited(&mut self, name: &str, arguments: usize) -> bool {
         match self.functions.get(name) {
-            Some(known) => known.contains(&arguments.len()),
+            Some(known) => known.contains(&arguments),
             None => false,
         }
     }

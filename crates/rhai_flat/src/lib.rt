@@ -18,5 +18,5 @@ mod writing;
 pub use bad_value::{BadValue, MAX_DEPTH};
 pub use grain_flat_file::CValue;
 pub use laws::rows_tell_forms;
-pub use reading::read_values;
+pub use reading::{read_one, read_values};
 pub use writing::FlatValues;

@@ -1,5 +1,5 @@
 //! Rows as values.
-ghost use Rattle.std.specs.Prelude.{◌≡◌, ◌+◌, ◌<◌, IfOk, OnOk, cond, length, string_bytes};
+ghost use Rattle.std.specs.Prelude.{◌≡◌, ◌+◌, ◌<◌, ◌∷◌, [], IfOk, OnOk, cond, length, string_bytes};
 ghost use Rattle.std.specs.BTreeMap.{keys};
 ghost use Rattle.std.specs.Cmp.Lexicographic.{slice_cmp};
 ghost use Rattle.std.specs.List.{All};
@@ -58,13 +58,51 @@ pub fn read_values(
         from: 0,
     };
     let values = read_limited(&mut reader, count, limits)?;
+    nothing_left(&reader)?;
+    Ok(values)
+}
+
+/// The one value that rows are, as [`read_values`] reads it.
+///
+/// # Errors
+/// As [`read_values`].
+pub fn read_one(
+    alloc: Global,
+    rows: &[CValue],
+    texts: &[u8],
+    limits: SizeLimits,
+) -> Result<Value, BadValue>
+    ensures rows { IfOk result (λ value.
+        AreRowsOf rows.now texts.now (flat_form value ∷ [])) }
+    ensures tags { OnOk result (AreOfRun rows.now) }
+    ensures depth { MAX_DEPTH < limits.depth → result ≡ Err BadValue.DepthLimit }
+{
+    if limits.depth > MAX_DEPTH {
+        return Err(BadValue::DepthLimit);
+    }
+    let mut reader = Reader {
+        alloc,
+        rows,
+        texts,
+        from: 0,
+    };
+    let value = read_within(&mut reader, limits)?;
+    nothing_left(&reader)?;
+    Ok(value)
+}
+
+/// Whether all rows and bytes were read.
+fn nothing_left(reader: &Reader<'_>) -> Result<(), BadValue>
+    ensures { OnOk result
+        ((length reader.now.rows.now ≡ 0) × (length reader.now.texts.now ≡ 0)) }
+{
     if !reader.rows.is_empty() {
         return Err(BadValue::RowsLeft);
     }
     if !reader.texts.is_empty() {
         return Err(BadValue::BytesLeft);
     }
-    Ok(values)
+    Ok(())
 }
 
 /// Reads values within the limits.
@@ -79,13 +117,22 @@ fn read_limited(
 {
     let mut values = Vec::new(reader.alloc);
     'values: for _ in 0..count {
-        let value = read_value(reader, limits.depth)?;
-        if !limits.allow(value.measure()) {
-            return Err(BadValue::TooLarge);
-        }
+        let value = read_within(reader, limits)?;
         values.push(value)?;
     }
     Ok(values)
+}
+
+/// Reads a value within the limits.
+fn read_within(reader: &mut Reader<'_>, limits: SizeLimits) -> Result<Value, BadValue>
+    ensures { IfOk result (λ value. IsFormRead reader.old reader.new (flat_form value)) }
+{
+    let value = read_value(reader, limits.depth)?;
+    if limits.allow(value.measure()) {
+        Ok(value)
+    } else {
+        Err(BadValue::TooLarge)
+    }
 }
 
 /// Reads a value, in which values are nested at most this deep.

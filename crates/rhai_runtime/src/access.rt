@@ -2,13 +2,12 @@
 ghost use Rattle.std.specs.Prelude.{IfOk, IfSome, length, ◌<◌};
 ghost use Rattle.grain_machine.specs.Reply.{NamesFunction};
 
-use crate::chains::{Goal, ends_early, entry_name, keys_of, placed, read, walk};
-use crate::fault::Failure;
 use crate::script::Script;
 use crate::world::World;
 use grain::Program;
 use grain_machine::Reply;
 use grain_pools::{Chain, Root, Step, Tail};
+use rhai_chains::{Goal, OpError, ends_early, entry_name, keys_of, placed, read, walk};
 use rhai_library::arithmetic;
 use rhai_values::{Cause, Lent, This, Value, Variable, swapped};
 use std::mem;
@@ -22,7 +21,7 @@ impl<W: World + Drop> Script<W> {
         program: &Program,
         chain: &Chain,
         operands: &mut [Value],
-    ) -> Result<Reply<Value>, Failure>
+    ) -> Result<Reply<Value>, OpError>
         ensures { IfOk result (NamesFunction program.now) }
     {
         let steps = chain.steps.as_slice();
@@ -33,7 +32,7 @@ impl<W: World + Drop> Script<W> {
                     op: *op,
                     value: value.take(),
                 },
-                None => return Err(Failure::from(Cause::Unsupported)),
+                None => return Err(OpError::from(Cause::Unsupported)),
             },
         };
         if self.may_be_method(steps.last())
@@ -44,7 +43,7 @@ impl<W: World + Drop> Script<W> {
         let variable = match &chain.root {
             Root::Temporary => {
                 let Some(value) = operands.last_mut() else {
-                    return Err(Failure::from(Cause::Unsupported));
+                    return Err(OpError::from(Cause::Unsupported));
                 };
                 let mut value = value.take();
                 let context = self.context(program);
@@ -140,7 +139,7 @@ impl<W: World + Drop> Script<W> {
         steps: &[Step],
         operands: &mut [Value],
         goal: Goal,
-    ) -> Result<Option<Value>, Failure> {
+    ) -> Result<Option<Value>, OpError> {
         if let (Goal::Read, [step]) = (&goal, steps)
             && !matches!(step, Step::Method { .. })
         {
@@ -161,7 +160,7 @@ impl<W: World + Drop> Script<W> {
         variable: Variable,
         step: &Step,
         operands: &[Value],
-    ) -> Result<Option<Value>, Failure> {
+    ) -> Result<Option<Value>, OpError> {
         let context = self.context(program);
         let value = self.variable(program, variable)?;
         if ends_early(value, step) {
@@ -187,7 +186,7 @@ impl<W: World + Drop> Script<W> {
         program: &Program,
         chain: &Chain,
         operands: &mut [Value],
-    ) -> Result<Option<Reply<Value>>, Failure>
+    ) -> Result<Option<Reply<Value>>, OpError>
         ensures { IfOk result (λ given. IfSome given (NamesFunction program.now)) }
     {
         let Some(called) = method_at_end(chain) else {
@@ -203,7 +202,7 @@ impl<W: World + Drop> Script<W> {
         };
         let end = called.first.saturating_add(called.count);
         let Some(arguments) = operands.get_mut(called.first..end) else {
-            return Err(Failure::from(Cause::Unsupported));
+            return Err(OpError::from(Cause::Unsupported));
         };
         let this = This { value, lent };
         self.variables
@@ -236,7 +235,7 @@ impl<W: World + Drop> Script<W> {
         called: Called,
         receiver: (Value, Option<Lent>),
         operands: &[Value],
-    ) -> Result<Option<Reply<Value>>, Failure>
+    ) -> Result<Option<Reply<Value>>, OpError>
         ensures { IfOk result (λ given. IfSome given (NamesFunction program.now)) }
     {
         let (value, lent) = receiver;
@@ -253,8 +252,8 @@ impl<W: World + Drop> Script<W> {
             Err(cause) => {
                 self.variables.give_back(value, lent)?;
                 Err(match chain.steps.get(called.path) {
-                    Some(step) => Failure::of_step(step, cause),
-                    None => Failure::from(cause),
+                    Some(step) => OpError::of_step(step, cause),
+                    None => OpError::from(cause),
                 })
             }
         }
@@ -298,7 +297,7 @@ impl<W: World + Drop> Script<W> {
         called: Called,
         receiver: (Value, Option<Lent>),
         operands: &[Value],
-    ) -> Result<Option<Reply<Value>>, Failure>
+    ) -> Result<Option<Reply<Value>>, OpError>
         ensures { IfOk result (λ given. IfSome given (NamesFunction program.now)) }
     {
         let (mut value, lent) = receiver;
@@ -320,10 +319,10 @@ impl<W: World + Drop> Script<W> {
         root: &Root,
         path: &[Step],
         operands: &mut [Value],
-    ) -> Result<Option<(Value, Option<Lent>)>, Failure> {
+    ) -> Result<Option<(Value, Option<Lent>)>, OpError> {
         if let Root::Temporary = root {
             let Some(last) = operands.last() else {
-                return Err(Failure::from(Cause::Unsupported));
+                return Err(OpError::from(Cause::Unsupported));
             };
             let mut value = last.clone()?;
             let context = self.context(program);
@@ -340,7 +339,7 @@ impl<W: World + Drop> Script<W> {
                     };
                     return Ok(Some((value, Some(lent))));
                 }
-                Err(Cause::OutOfMemory) => return Err(Failure::from(Cause::OutOfMemory)),
+                Err(Cause::OutOfMemory) => return Err(OpError::from(Cause::OutOfMemory)),
                 // It is no part that goes back, as a character of a text; or a step fails, which is found by reading.
                 Err(_) => {}
             }

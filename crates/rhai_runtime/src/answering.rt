@@ -4,9 +4,9 @@ ghost use Rattle.std.specs.Option.{option_copied};
 ghost use Rattle.rhai_runtime.specs.Asked.{asked_of};
 
 use crate::asked::Asked;
-use crate::fault::{Failure, Fault};
 use crate::script::Script;
 use crate::world::World;
+use rhai_chains::{Fault, OpError};
 use rhai_values::{Cause, Value};
 
 impl<W: World + Drop> Script<W> {
@@ -15,12 +15,20 @@ impl<W: World + Drop> Script<W> {
     pub fn asked(&self) -> Option<&Asked>
         ensures { option_copied result ≡ asked_of self.now }
     {
-        self.asked.as_ref()
+        if self.is_waiting {
+            Some(&self.call)
+        } else {
+            None
+        }
     }
 
     /// The call for which the run waits, if it does, to change its receiver.
     pub fn asked_mut(&mut self) -> Option<&mut Asked> {
-        self.asked.as_mut()
+        if self.is_waiting {
+            Some(&mut self.call)
+        } else {
+            None
+        }
     }
 
     /// Ends the call for which the run waits, with the value for [`answer`](grain_machine::Runnable::answer). Its receiver goes back
@@ -43,7 +51,7 @@ impl<W: World + Drop> Script<W> {
             }
             (Err(cause), _) | (Ok(()), Err(cause)) => Err(self.failed(
                 self.at,
-                Failure::from(cause),
+                OpError::from(cause),
             )),
         }
     }
@@ -58,7 +66,7 @@ impl<W: World + Drop> Script<W> {
             Ok(()) => cause,
             Err(cause) => cause,
         };
-        self.failed(self.at, Failure::from(cause))
+        self.failed(self.at, OpError::from(cause))
     }
 
     /// Puts the receiver back where it was taken from.
@@ -66,20 +74,28 @@ impl<W: World + Drop> Script<W> {
         ensures at { self.new.at ≡ self.old.at }
         ensures ended { asked_of self.new ≡ None }
     {
-        let Some(asked) = self.asked.take() else {
+        if !self.is_waiting {
+            return Ok(());
+        }
+        let returned = self.give_back_receiver();
+        self.call.clear();
+        self.is_waiting = false;
+        returned
+    }
+
+    /// Puts the first argument of the call back into the variable that it was taken from, if it was.
+    fn give_back_receiver(&mut self) -> Result<(), Cause>
+        ensures { self.new.at ≡ self.old.at }
+    {
+        let Some(lent) = self.call.lent.take() else {
             return Ok(());
         };
-        let Asked {
-            name: _name,
-            mut arguments,
-            lent,
-        } = asked;
-        let Some(receiver) = arguments.first_mut() else {
+        let Some(receiver) = self.call.arguments.first_mut() else {
             return Ok(());
         };
         let receiver = receiver.take();
         let allowed = self.allowed(&receiver);
-        self.variables.give_back(receiver, lent)?;
+        self.variables.give_back(receiver, Some(lent))?;
         allowed
     }
 }

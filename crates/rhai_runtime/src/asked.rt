@@ -3,6 +3,7 @@ ghost use Rattle.std.specs.Prelude.{◌≡◌, IfSome, Some, slice_get};
 ghost use Rattle.rhai_runtime.specs.Asked.{asked_arguments, asked_name};
 
 use rhai_values::{Lent, Value};
+use std::alloc::{AllocError, Global};
 
 /// A call that the embedding program does while the run waits.
 #[derive(Drop)]
@@ -14,6 +15,31 @@ pub struct Asked {
 }
 
 impl Asked {
+    /// A call of no function.
+    pub(crate) fn new(alloc: Global) -> Asked {
+        Asked {
+            name: String::new(alloc),
+            arguments: Vec::new(alloc),
+            lent: None,
+        }
+    }
+
+    /// Appends the name and the arguments of a call.
+    pub(crate) fn fill(&mut self, name: &str, arguments: &[Value]) -> Result<(), AllocError> {
+        self.name.push_str(name)?;
+        for argument in arguments {
+            self.arguments.push(argument.clone()?)?;
+        }
+        Ok(())
+    }
+
+    /// Drops the name and the arguments, and keeps their memory for another call.
+    pub(crate) fn clear(&mut self) {
+        self.name.clear();
+        self.arguments.clear();
+        self.lent = None;
+    }
+
     /// The name of the function.
     #[must_use]
     pub fn name(&self) -> &str

@@ -3,7 +3,6 @@ ghost use Rattle.std.specs.Prelude.{IfOk, IfSome, length, ◌<◌};
 ghost use Rattle.grain.specs.Program.{Program};
 ghost use Rattle.grain_machine.specs.Reply.{NamesFunction};
 
-use crate::asked::Asked;
 use crate::script::Script;
 use crate::world::World;
 use grain::Program;
@@ -11,6 +10,7 @@ use grain_code::Receiver;
 use grain_machine::Reply;
 use rhai_library::{Callee, call, operate_at, operate_on};
 use rhai_values::{Cause, Lent, Pointer, This, Value, Variable, copies};
+use std::alloc::AllocError;
 
 /// What a function pointer is called on in method position.
 #[derive(Drop)]
@@ -111,27 +111,57 @@ impl<W: World + Drop> Script<W> {
     ) -> Result<Option<Reply<Value>>, Cause>
         ensures { (program : Program) → IfOk result (λ given. IfSome given (NamesFunction program)) }
     {
-        if let Some(value) = self.world.call(self.alloc, name, arguments)? {
-            return Ok(Some(Reply::Value(value)));
+        if self.world.is_awaited(name, arguments.len()) {
+            self.wait_for(name, arguments)?;
+            return Ok(Some(Reply::Wait));
         }
-        if !self.world.is_awaited(name, arguments) {
-            return Ok(None);
+        match self.world.call(self.alloc, name, arguments)? {
+            Some(value) => Ok(Some(Reply::Value(value))),
+            None => Ok(None),
         }
-        self.asked = Some(Asked {
-            name: String::from_str(self.alloc, name)?,
-            arguments: copies(self.alloc, arguments)?,
-            lent: None,
-        });
-        Ok(Some(Reply::Wait))
+    }
+
+    /// Has the run wait for a call of the embedding program.
+    fn wait_for(&mut self, name: &str, arguments: &[Value]) -> Result<(), AllocError> {
+        let filled = self.call.fill(name, arguments);
+        if filled.is_err() {
+            self.call.clear();
+        }
+        self.is_waiting = filled.is_ok();
+        filled
+    }
+
+    /// As [`wait_for`](Script::wait_for), of a call whose first argument is the value of a variable, which is taken out of it. If it
+    /// fails, the variable is as it was.
+    fn wait_in_place(
+        &mut self,
+        program: &Program,
+        name: &str,
+        variable: Variable,
+        arguments: &[Value],
+    ) -> Result<(), Cause> {
+        self.call.arguments.push(Value::Unit)?;
+        self.wait_for(name, arguments)?;
+        match self.lent(program, variable) {
+            Ok(This { value, lent }) => {
+                self.lend(value, lent);
+                Ok(())
+            }
+            Err(cause) => {
+                self.is_waiting = false;
+                self.call.clear();
+                Err(cause)
+            }
+        }
     }
 
     /// The call for which the run is to wait has this receiver, which was taken out of a variable.
     pub(crate) fn lend(&mut self, value: Value, lent: Option<Lent>) {
-        if let Some(asked) = &mut self.asked
-            && let Some(first) = asked.arguments.first_mut()
+        if self.is_waiting
+            && let Some(first) = self.call.arguments.first_mut()
         {
             *first = value;
-            asked.lent = lent;
+            self.call.lent = lent;
         }
     }
 
@@ -345,8 +375,8 @@ impl<W: World + Drop> Script<W> {
         let alloc = self.alloc;
         let limits = self.limits;
         let callee = self.table.callee(name);
-        let receiver = self.variable_mut(program, variable)?;
         if let Some(Callee::Library(function)) = callee {
+            let receiver = self.variable_mut(program, variable)?;
             let given = call(alloc, limits, function, receiver, arguments);
             if !limits.allow(receiver.measure()) {
                 return Err(Cause::TooLarge);
@@ -355,8 +385,14 @@ impl<W: World + Drop> Script<W> {
                 return Ok(Reply::Value(value));
             }
         }
+        let count = arguments.len().saturating_add(1);
+        let text = program.names().get(name).unwrap_or("");
+        if callee.is_none() && self.world.is_awaited(text, count) {
+            self.wait_in_place(program, text, variable, arguments)?;
+            return Ok(Reply::Wait);
+        }
         let mut all = Vec::new(alloc);
-        all.push(receiver.clone()?)?;
+        all.push(self.variable(program, variable)?.clone()?)?;
         for argument in arguments {
             all.push(argument.clone()?)?;
         }

@@ -6,11 +6,11 @@ ghost use Rattle.grain_machine.specs.Asked.{IsAsked, IsRequested};
 ghost use Rattle.grain_machine.specs.Reply.{NamesFunction};
 ghost use Rattle.rhai_runtime.specs.Asked.{asked_of};
 
-use crate::fault::{Failure, Fault};
 use crate::script::Script;
 use crate::world::World;
 use grain_machine::{CallError, Host, Reply, Request, dispatch};
 use grain_pools::Switch;
+use rhai_chains::{Fault, OpError};
 use rhai_values::{Cause, Value, Walk, constant_of};
 
 impl<W: World + Drop> Script<W> {
@@ -18,18 +18,18 @@ impl<W: World + Drop> Script<W> {
     fn fault(&mut self, request: &Request<'_>, cause: Cause) -> Fault
         ensures { result.at ≡ request.now.at }
     {
-        self.failed(request.at, Failure::from(cause))
+        self.failed(request.at, OpError::from(cause))
     }
 
     /// The fault of the operation at an address, which fails so.
     #[cold]
-    pub(crate) fn failed(&mut self, at: usize, failure: Failure) -> Fault
+    pub(crate) fn failed(&mut self, at: usize, error: OpError) -> Fault
         ensures at { result.at ≡ at }
         ensures asked { asked_of self.new ≡ asked_of self.old }
     {
         self.at = at;
         self.begin_fault();
-        let Failure { cause, step } = failure;
+        let OpError { cause, step } = error;
         Fault { cause, at, step }
     }
 
@@ -39,7 +39,7 @@ impl<W: World + Drop> Script<W> {
         &mut self,
         request: &Request<'_>,
         operands: &mut [Value],
-    ) -> Result<Reply<Value>, Failure>
+    ) -> Result<Reply<Value>, OpError>
         ensures { IfOk result (NamesFunction request.now.program.now) }
     {
         self.raise_pending()?;
@@ -158,7 +158,7 @@ impl<W: World + Drop> Host for Script<W> {
         self.at = request.at;
         match self.reply(request, operands) {
             Ok(reply) => Ok(reply),
-            Err(failure) => Err(self.failed(request.at, failure)),
+            Err(error) => Err(self.failed(request.at, error)),
         }
     }
 
@@ -180,7 +180,7 @@ impl<W: World + Drop> Host for Script<W> {
             CallError::TooDeep => Cause::TooDeep,
             CallError::OutOfMemory => Cause::OutOfMemory,
         };
-        self.failed(self.at, Failure::from(cause))
+        self.failed(self.at, OpError::from(cause))
     }
 
     /// Its fault has the address of the operation.
@@ -277,7 +277,7 @@ impl<W: World + Drop> Host for Script<W> {
         };
         match bound {
             Ok(()) => Ok(()),
-            Err(_) => Err(self.failed(at, Failure::from(Cause::OutOfMemory))),
+            Err(_) => Err(self.failed(at, OpError::from(Cause::OutOfMemory))),
         }
     }
 }

@@ -3,13 +3,15 @@ ghost use Rattle.std.specs.Prelude.{◌≡◌, ◌≢◌, ◌↔◌, [], Err, If
 ghost use Rattle.grain.specs.Lookups.{is_text};
 ghost use Rattle.rhai_runtime.specs.Named.{IsFunctionNamed, LacksFunction, LacksName};
 
-use crate::asked::OuterRun;
+use crate::asked::{Asked, OuterRun};
 use crate::named::{first_function, first_name, is_function_named, is_text};
 use crate::script::Script;
 use crate::world::World;
 use grain::Program;
 use grain_machine::Host;
 use rhai_values::{Cause, Value, Variables};
+use std::alloc::AllocError;
+use std::mem;
 
 impl<W: World + Drop> Script<W> {
     /// The function of the program that has this name and number of parameters, and is declared for no type of `this`. If there are
@@ -51,6 +53,45 @@ impl<W: World + Drop> Script<W> {
         self.variables.named(self.table.index_of(name)?)
     }
 
+    /// A run of the top level is to begin: the variables of the last one are forgotten.
+    ///
+    /// # Errors
+    /// Out of memory. Nothing is forgotten.
+    pub fn prepare_top(&mut self, program: &Program) -> Result<(), AllocError> {
+        self.top.learn(self.alloc, program)?;
+        self.top.clear();
+        Ok(())
+    }
+
+    /// The value that a local variable of the top level had at the end of its last run.
+    #[must_use]
+    pub fn top_variable(&self, name: &str) -> Option<&Value> {
+        self.top.value(self.table.index_of(name)?)
+    }
+
+    /// Keeps the local variables of the top level, whose run ends. If memory runs out it keeps none.
+    fn keep_top(&mut self) {
+        if self.variables.slot(0).is_none() {
+            return;
+        }
+        match self.top_values() {
+            Ok(values) => self.top.keep(values),
+            Err(_) => self.top.clear(),
+        }
+    }
+
+    /// The values of the first variables of the frame, as many as the top level declares.
+    fn top_values(&self) -> Result<Vec<Value>, Cause> {
+        let mut values = Vec::new(self.alloc);
+        for slot in 0..=u16::MAX {
+            if values.len() == self.top.len() || self.variables.slot(slot).is_none() {
+                break;
+            }
+            values.push(self.variables.local(slot)?.clone()?)?;
+        }
+        Ok(values)
+    }
+
     /// Drops all variables. The caller must drop all runs.
     pub fn clear_variables(&mut self) {
         self.begin_run();
@@ -82,7 +123,12 @@ impl<W: World + Drop> Script<W> {
         if self.outer.reserve(1).is_err() || self.variables.begin(arguments, self.at).is_err() {
             return Err(Cause::OutOfMemory);
         }
-        let asked = self.asked.take();
+        let asked = if self.is_waiting {
+            Some(mem::replace(&mut self.call, Asked::new(self.alloc)))
+        } else {
+            None
+        };
+        self.is_waiting = false;
         let entered = self.entered;
         self.outer.push_reserved(OuterRun { asked, entered });
         Ok(())
@@ -99,7 +145,10 @@ impl<W: World + Drop> Script<W> {
                 if let Some(call) = self.variables.end() {
                     self.at = call.at;
                 }
-                self.asked = asked;
+                if let Some(call) = asked {
+                    self.call = call;
+                    self.is_waiting = true;
+                }
             }
             None => {
                 self.leave(0);

@@ -4,14 +4,12 @@ ghost use Rattle.grain_machine.specs.Reply.{NamesFunction};
 ghost use Rattle.rhai_runtime.specs.Asked.{asked_of};
 
 use crate::asked::{Asked, OuterRun};
-use crate::chains::{Context, assign_to};
-use crate::fault::Failure;
-use crate::table::Table;
 use crate::top::Top;
 use crate::world::World;
 use grain::Program;
 use grain_code::Op;
 use grain_machine::{Reply, Request};
+use rhai_chains::{Context, NameTable, OpError, assign_to};
 use rhai_library::{assign_integer, of_integers};
 use rhai_values::{Cause, SizeLimits, This, Value, Variable, Variables};
 use std::alloc::{AllocError, Global};
@@ -29,7 +27,7 @@ use std::rc::Rc;
 pub struct Script<W> {
     pub(crate) alloc: Global,
     pub(crate) world: W,
-    pub(crate) table: Table,
+    pub(crate) table: NameTable,
     pub(crate) limits: SizeLimits,
     pub(crate) variables: Variables,
     /// What went wrong if the machine takes no fault, raised at the next operation.
@@ -42,8 +40,10 @@ pub struct Script<W> {
     pub(crate) is_failing: bool,
     /// The addresses of the calls that this fault ended, the innermost first.
     ended_calls: Vec<usize>,
-    /// The call for which the run waits.
-    pub(crate) asked: Option<Asked>,
+    /// Whether the run waits for a call that the embedding program does.
+    pub(crate) is_waiting: bool,
+    /// That call. If the run doesn't wait, it is the memory for the next one, without arguments.
+    pub(crate) call: Asked,
     /// How many functions were entered and not left.
     pub(crate) entered: usize,
     /// The runs that wait while the last one is under way, the last that began at the end.
@@ -72,7 +72,7 @@ impl<W: World + Drop> Script<W> {
         Ok(Script {
             alloc,
             world,
-            table: Table::of(alloc, program)?,
+            table: NameTable::of(alloc, program)?,
             limits,
             variables: Variables::new(alloc),
             pending: None,
@@ -80,7 +80,8 @@ impl<W: World + Drop> Script<W> {
             at: 0,
             is_failing: false,
             ended_calls: Vec::new(alloc),
-            asked: None,
+            is_waiting: false,
+            call: Asked::new(alloc),
             entered: 0,
             outer: Vec::new(alloc),
             top: Top::new(alloc),
@@ -245,7 +246,7 @@ impl<W: World + Drop> Script<W> {
         &mut self,
         request: &Request<'_>,
         operands: &mut [Value],
-    ) -> Result<Reply<Value>, Failure>
+    ) -> Result<Reply<Value>, OpError>
         ensures { IfOk result (NamesFunction request.now.program.now) }
     {
         let program = request.program;
@@ -253,7 +254,7 @@ impl<W: World + Drop> Script<W> {
             Op::LoadLocal(slot) => self.variables.local(*slot)?.clone()?,
             Op::Const(index) => match self.table.constant(*index) {
                 Some(value) => value.clone()?,
-                None => return Err(Failure::from(Cause::Unsupported)),
+                None => return Err(OpError::from(Cause::Unsupported)),
             },
             Op::Call {
                 name,
@@ -263,7 +264,7 @@ impl<W: World + Drop> Script<W> {
             Op::Call { name, op: None, .. } => return Ok(self.call(program, *name, operands)?),
             Op::Chain(index) => match program.chains().get(*index as usize) {
                 Some(chain) => return self.chain(program, chain, operands),
-                None => return Err(Failure::from(Cause::Unsupported)),
+                None => return Err(OpError::from(Cause::Unsupported)),
             },
             Op::CallFnPtr {
                 is_method,

@@ -1,10 +1,8 @@
 //! The local variables of the top level, which stay to be read when its run has ended.
 
-use crate::script::Script;
-use crate::world::World;
 use grain::{Program, disassemble};
 use grain_code::Op;
-use rhai_values::{Cause, Value};
+use rhai_values::Value;
 use std::alloc::{AllocError, Global};
 
 /// The local variables that the top level had at the end of its last run.
@@ -23,9 +21,41 @@ impl Top {
         }
     }
 
-    /// Forgets their values.
+    /// Learns the names of the program's variables, unless they are known.
+    ///
+    /// # Errors
+    /// Out of memory. Nothing has changed.
+    pub(crate) fn learn(&mut self, alloc: Global, program: &Program) -> Result<(), AllocError> {
+        if self.names.is_empty() {
+            self.names = names_at_end(alloc, program)?;
+        }
+        Ok(())
+    }
+
+    /// How many variables there are.
+    pub(crate) fn len(&self) -> usize {
+        self.names.len()
+    }
+
+    /// Keeps these values, by slot.
+    pub(crate) fn keep(&mut self, values: Vec<Value>) {
+        self.values = values;
+    }
+
+    /// Forgets all values.
     pub(crate) fn clear(&mut self) {
         self.values.clear();
+    }
+
+    /// The value of the variable whose name has this index.
+    pub(crate) fn value(&self, name: u32) -> Option<&Value> {
+        // The last one of a name hides those before it.
+        for (known, value) in self.names.iter().zip(self.values.iter()).rev() {
+            if *known == name {
+                return Some(value);
+            }
+        }
+        None
     }
 }
 
@@ -46,56 +76,4 @@ fn names_at_end(alloc: Global, program: &Program) -> Result<Vec<u32>, AllocError
         }
     }
     Ok(names)
-}
-
-impl<W: World + Drop> Script<W> {
-    /// A run of the top level is to begin: the variables of the last one are forgotten.
-    ///
-    /// # Errors
-    /// Out of memory. Nothing is forgotten.
-    pub fn prepare_top(&mut self, program: &Program) -> Result<(), AllocError> {
-        if self.top.names.is_empty() {
-            self.top.names = names_at_end(self.alloc, program)?;
-        }
-        self.top.clear();
-        Ok(())
-    }
-
-    /// The value that a local variable of the top level had at the end of its last run.
-    #[must_use]
-    pub fn top_variable(&self, name: &str) -> Option<&Value> {
-        let name = self.table.index_of(name)?;
-        // The last one of a name hides those before it.
-        for (known, value) in self.top.names.iter().zip(self.top.values.iter()).rev() {
-            if *known == name {
-                return Some(value);
-            }
-        }
-        None
-    }
-
-    /// Keeps the local variables of the top level, whose run ends. If memory lacks it keeps none.
-    pub(crate) fn keep_top(&mut self) {
-        if self.variables.slot(0).is_none() {
-            return;
-        }
-        self.top.clear();
-        if let Ok(values) = self.top_values() {
-            self.top.values = values;
-        }
-    }
-
-    fn top_values(&self) -> Result<Vec<Value>, Cause> {
-        let mut values = Vec::new(self.alloc);
-        for slot in 0..self.top.names.len() {
-            let Ok(slot) = u16::try_from(slot) else {
-                break;
-            };
-            if self.variables.slot(slot).is_none() {
-                break;
-            }
-            values.push(self.variables.local(slot)?.clone()?)?;
-        }
-        Ok(values)
-    }
 }

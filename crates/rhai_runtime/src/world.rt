@@ -18,7 +18,7 @@ pub trait World {
     fn debug(&mut self, line: &str) -> Result<(), Cause>;
 
     /// Calls a function of the world. It is called if neither the script nor the library has one of this name that takes
-    /// these arguments. `None` means that the world has none either.
+    /// these arguments, and the embedding program does no calls of it. `None` means that the world has none either.
     ///
     /// # Errors
     /// Why the function fails.
@@ -31,9 +31,9 @@ pub trait World {
         Ok(None)
     }
 
-    /// Whether the embedding program does calls of this function itself while the run waits. It is called if
-    /// [`call`](World::call) has no such function. [`Script::asked`](crate::Script::asked) then has the call.
-    fn is_awaited(&mut self, _name: &str, _arguments: &[Value]) -> bool {
+    /// Whether the embedding program does calls of this function, with this number of arguments, itself while the run waits. It is
+    /// called if neither the script nor the library has one. [`Script::asked`](crate::Script::asked) then has the call.
+    fn is_awaited(&mut self, _name: &str, _arguments: usize) -> bool {
         false
     }
 }

@@ -12,7 +12,7 @@ use Rattle.rhai_engine.specs.declared.event.Event.TheVariants as events
 use Rattle.rhai_engine.specs.declared.event.Status.TheVariants as statuses
 use Rattle.rhai_flat.specs.Forms.{flat_form}
 use Rattle.rhai_flat.specs.Rows.{AreRowsOf}
-use Rattle.rhai_runtime.specs.declared.fault.Fault.{Fault}
+use Rattle.rhai_chains.specs.declared.fault.Fault.{Fault}
 use Rattle.rhai_values.specs.declared.cause.Cause.{Cause}
 use Rattle.rhai_values.specs.declared.cause.Cause.TheVariants as causes
 use Rattle.rhai_values.specs.declared.value.Value.{Value}

@@ -12,7 +12,7 @@ use crate::failure::RunFailure;
 use grain_file::{WriteError, write};
 use grain_machine::Prepared;
 use rhai_engine::{Bounds, State, VariableError};
-use rhai_flat::{BadValue, CValue, FlatValues, read_values};
+use rhai_flat::{BadValue, CValue, FlatValues, read_one, read_values};
 use rhai_values::{Cause, Foreign, Value};
 use std::alloc::Global;
 use std::marker::Model;
@@ -239,11 +239,7 @@ impl Session {
     pub(crate) fn value_of(&self, rows: &[CValue], texts: &[u8]) -> Result<Value, Refused>
         ensures { IfErr result IsOfValue }
     {
-        let mut values = self.values_of(rows, texts, 1)?;
-        match values.pop() {
-            Some(value) => Ok(value),
-            None => Err(Refused::BadValue),
-        }
+        Ok(read_one(self.alloc, rows, texts, self.bounds.size)?)
     }
 }
 

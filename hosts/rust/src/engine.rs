@@ -38,7 +38,7 @@ mod values;
 
 pub use error::{CompileError, HostError, LoadError, RunError, WrongType};
 pub use fault::{Fault, FaultKind};
-pub use functions::{Changed, IntoAnswer, IntoFunction, IntoMethod, Plain, WithState};
+pub use functions::{Arguments, Changed, IntoAnswer, IntoFunction, IntoMethod, Plain, WithState};
 pub use script::{Bounds, Engine, Interrupt, Script};
 pub use state::State;
 pub use step::{Call, Step};

@@ -5,6 +5,7 @@ use super::values::{FromValue, Value};
 use std::collections::{BTreeMap, HashMap};
 use std::marker::PhantomData;
 use std::sync::Arc;
+use std::vec::Drain;
 
 /// What came of a call that a closure did.
 pub(crate) struct Served {
@@ -34,8 +35,24 @@ impl Served {
     }
 }
 
+/// The arguments of a call, of which each is taken once.
+#[derive(Debug)]
+pub struct Arguments<'a>(Drain<'a, Value>);
+
+impl<'a> Arguments<'a> {
+    /// All of these values. The memory of the list is kept for another call.
+    pub(crate) fn of(values: &'a mut Vec<Value>) -> Arguments<'a> {
+        Arguments(values.drain(..))
+    }
+
+    /// The next argument, as the type that the closure takes. The script may catch that it is of another type.
+    fn next<T: FromValue>(&mut self) -> Result<T, HostError> {
+        Ok(T::from_value(self.0.next().unwrap_or_default())?)
+    }
+}
+
 /// A closure that does a function of the host.
-pub(crate) type Closure = Arc<dyn Fn(&mut State, Vec<Value>) -> Served + Send + Sync>;
+pub(crate) type Closure = Arc<dyn Fn(&mut State, Arguments<'_>) -> Served + Send + Sync>;
 
 /// A function of the host.
 #[derive(Clone)]
@@ -97,7 +114,7 @@ pub trait IntoFunction<Marker>: Sized {
     ///
     /// # Errors
     /// An argument is of another type, or the closure failed.
-    fn call(&self, state: &mut State, arguments: Vec<Value>) -> Result<Value, HostError>;
+    fn call(&self, state: &mut State, arguments: Arguments<'_>) -> Result<Value, HostError>;
 }
 
 /// What a method made of its receiver, and what it returned.
@@ -126,7 +143,7 @@ pub trait IntoMethod<Marker>: Sized {
     ///
     /// # Errors
     /// An argument is of another type, and the closure wasn't called.
-    fn call(&self, state: &mut State, arguments: Vec<Value>) -> Result<Changed, HostError>;
+    fn call(&self, state: &mut State, arguments: Arguments<'_>) -> Result<Changed, HostError>;
 }
 
 /// Marks closures that take arguments alone.
@@ -136,11 +153,6 @@ pub struct Plain<T>(PhantomData<T>);
 /// Marks closures that take the state first.
 #[derive(Debug)]
 pub struct WithState<T>(PhantomData<T>);
-
-/// The next argument, as the type that the closure takes. The script may catch that it is of another type.
-fn argument<T: FromValue>(values: &mut std::vec::IntoIter<Value>) -> Result<T, HostError> {
-    Ok(T::from_value(values.next().unwrap_or_default())?)
-}
 
 macro_rules! functions {
     ($(($count:literal; $($t:ident),*))*) => { $(
@@ -153,9 +165,8 @@ macro_rules! functions {
             const ARGUMENTS: u32 = $count;
 
             #[allow(unused_mut, unused_variables)]
-            fn call(&self, _: &mut State, arguments: Vec<Value>) -> Result<Value, HostError> {
-                let mut arguments = arguments.into_iter();
-                self($(argument::<$t>(&mut arguments)?),*).into_answer()
+            fn call(&self, _: &mut State, mut arguments: Arguments<'_>) -> Result<Value, HostError> {
+                self($(arguments.next::<$t>()?),*).into_answer()
             }
         }
 
@@ -168,9 +179,8 @@ macro_rules! functions {
             const ARGUMENTS: u32 = $count;
 
             #[allow(unused_mut, unused_variables)]
-            fn call(&self, state: &mut State, arguments: Vec<Value>) -> Result<Value, HostError> {
-                let mut arguments = arguments.into_iter();
-                self(state, $(argument::<$t>(&mut arguments)?),*).into_answer()
+            fn call(&self, state: &mut State, mut arguments: Arguments<'_>) -> Result<Value, HostError> {
+                self(state, $(arguments.next::<$t>()?),*).into_answer()
             }
         }
 
@@ -183,10 +193,9 @@ macro_rules! functions {
         {
             const ARGUMENTS: u32 = $count + 1;
 
-            fn call(&self, _: &mut State, arguments: Vec<Value>) -> Result<Changed, HostError> {
-                let mut arguments = arguments.into_iter();
-                let mut this: T = argument(&mut arguments)?;
-                let answer = self(&mut this, $(argument::<$t>(&mut arguments)?),*);
+            fn call(&self, _: &mut State, mut arguments: Arguments<'_>) -> Result<Changed, HostError> {
+                let mut this: T = arguments.next()?;
+                let answer = self(&mut this, $(arguments.next::<$t>()?),*);
                 Ok(Changed::of(this, answer))
             }
         }
@@ -200,10 +209,9 @@ macro_rules! functions {
         {
             const ARGUMENTS: u32 = $count + 1;
 
-            fn call(&self, state: &mut State, arguments: Vec<Value>) -> Result<Changed, HostError> {
-                let mut arguments = arguments.into_iter();
-                let mut this: T = argument(&mut arguments)?;
-                let answer = self(state, &mut this, $(argument::<$t>(&mut arguments)?),*);
+            fn call(&self, state: &mut State, mut arguments: Arguments<'_>) -> Result<Changed, HostError> {
+                let mut this: T = arguments.next()?;
+                let answer = self(state, &mut this, $(arguments.next::<$t>()?),*);
                 Ok(Changed::of(this, answer))
             }
         }

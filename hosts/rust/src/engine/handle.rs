@@ -64,7 +64,14 @@ impl<'a> Shown<'a> {
     }
 
     pub(crate) fn values(&self) -> Vec<Value> {
-        Reader::new(self.rows, self.texts).values(self.count as usize)
+        let mut values = Vec::new();
+        self.fill(&mut values);
+        values
+    }
+
+    /// Appends the values.
+    pub(crate) fn fill(&self, values: &mut Vec<Value>) {
+        Reader::new(self.rows, self.texts).fill(values, self.count as usize);
     }
 }
 

@@ -126,10 +126,16 @@ impl<'a> Reader<'a> {
         self.row().map_or_else(String::new, |row| self.text(row))
     }
 
-    /// The next values.
-    pub(crate) fn values(&mut self, count: usize) -> Vec<Value> {
+    /// Appends the next values.
+    pub(crate) fn fill(&mut self, values: &mut Vec<Value>, count: usize) {
         let most = self.rows.len().min(count);
-        (0..most).map(|_| self.value()).collect()
+        values.extend((0..most).map(|_| self.value()));
+    }
+
+    fn values(&mut self, count: usize) -> Vec<Value> {
+        let mut values = Vec::new();
+        self.fill(&mut values, count);
+        values
     }
 
     fn entries(&mut self, count: usize) -> BTreeMap<String, Value> {

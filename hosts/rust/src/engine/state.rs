@@ -1,6 +1,6 @@
 //! States of scripts, and their runs.
 use super::error::{HostError, RunError};
-use super::functions::{Closure, Function, IntoAnswer, Served};
+use super::functions::{Arguments, Closure, Function, IntoAnswer, Served};
 use super::handle::{done, Handle};
 use super::script::Engine;
 use super::step::{Call, Step};
@@ -77,6 +77,8 @@ pub struct State {
     /// How many runs began.
     begun: u64,
     used: u64,
+    /// Memory for the arguments of calls.
+    arguments: Vec<Value>,
 }
 
 impl fmt::Debug for State {
@@ -112,6 +114,7 @@ impl State {
             runs: Vec::new(),
             begun: 0,
             used: 0,
+            arguments: Vec::new(),
         })
     }
 
@@ -339,10 +342,16 @@ impl State {
         number: u64,
         caller: Caller,
     ) -> Result<Option<Call>, RunError> {
+        let mut arguments = mem::take(&mut self.arguments);
         let shown = self.handle.asked()?;
-        let (name, arguments) = (shown.name(), shown.values());
+        let name = shown.name();
+        shown.fill(&mut arguments);
         let served = match engine.functions.get(name, arguments.len()) {
-            Some(Function::Closure(closure)) => self.served(closure, arguments, number)?,
+            Some(Function::Closure(closure)) => {
+                let served = self.served(closure, Arguments::of(&mut arguments), number)?;
+                self.arguments = arguments;
+                served
+            }
             _ if caller == Caller::Steps => return Ok(Some(Call::of(name, arguments))),
             _ => Served::function(Err(HostError::Fail(format!(
                 "no closure does `{name}`, and the run isn't taken by steps"
@@ -356,7 +365,7 @@ impl State {
     fn served(
         &mut self,
         closure: &Closure,
-        arguments: Vec<Value>,
+        arguments: Arguments<'_>,
         number: u64,
     ) -> Result<Served, RunError> {
         self.enter(Stage::Served);

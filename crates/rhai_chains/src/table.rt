@@ -28,17 +28,20 @@ struct Meaning {
 
 /// What the names and constants of a program mean.
 #[derive(Drop)]
-pub(crate) struct Table {
+pub struct NameTable {
     constants: Vec<Value>,
     /// By the index of the name.
     meanings: Vec<Meaning>,
     indices: BTreeMap<String, u32>,
 }
 
-impl Table {
-    /// The table of the program. It takes time and memory by its pools and functions.
-    pub(crate) fn of(alloc: Global, program: &Program) -> Result<Table, Cause> {
-        let mut table = Table {
+impl NameTable {
+    /// The table of the program. It takes time n log n in the number of its names, and linear in its other pools and functions.
+    ///
+    /// # Errors
+    /// Out of memory, or [`Cause::Unsupported`] if a constant is a value of another host.
+    pub fn of(alloc: Global, program: &Program) -> Result<NameTable, Cause> {
+        let mut table = NameTable {
             constants: Vec::new(alloc),
             meanings: Vec::new(alloc),
             indices: BTreeMap::new(alloc),
@@ -80,21 +83,24 @@ impl Table {
         Ok(())
     }
 
-    /// The value of a constant.
-    pub(crate) fn constant(&self, index: u32) -> Option<&Value> {
+    /// The value of the constant at an index.
+    #[must_use]
+    pub fn constant(&self, index: u32) -> Option<&Value> {
         self.constants.get(index as usize)
     }
 
-    /// The name at an index.
-    pub(crate) fn name(&self, index: u32) -> Option<&Rc<Text>> {
+    /// The name at an index, to be shared.
+    #[must_use]
+    pub fn name(&self, index: u32) -> Option<&Rc<Text>> {
         match self.meanings.get(index as usize) {
             Some(meaning) => Some(&meaning.name),
             None => None,
         }
     }
 
-    /// The index of a name.
-    pub(crate) fn index_of(&self, name: &str) -> Option<u32> {
+    /// The index of a name. It takes time by the logarithm of the number of names.
+    #[must_use]
+    pub fn index_of(&self, name: &str) -> Option<u32> {
         match self.indices.get(name) {
             Some(index) => Some(*index),
             None => None,
@@ -102,12 +108,14 @@ impl Table {
     }
 
     /// The function of the library, or `print` or `debug`, that has this name.
-    pub(crate) fn callee(&self, name: u32) -> Option<Callee> {
+    #[must_use]
+    pub fn callee(&self, name: u32) -> Option<Callee> {
         self.meanings.get(name as usize)?.callee
     }
 
     /// The function of the program that has this name and number of parameters, and is declared for no receiver.
-    pub(crate) fn function(&self, program: &Program, name: u32, params: usize) -> Option<usize>
+    #[must_use]
+    pub fn function(&self, program: &Program, name: u32, params: usize) -> Option<usize>
         ensures { IfSome result (λ index. index < length program.now.functions) }
     {
         let meaning = self.meanings.get(name as usize)?;
@@ -119,18 +127,15 @@ impl Table {
         None
     }
 
-    /// As [`function`](Table::function), by the name's text. What it says must be tested: nothing is proved of the table's names.
-    pub(crate) fn function_named(
-        &self,
-        program: &Program,
-        name: &str,
-        params: usize,
-    ) -> Option<usize> {
+    /// As [`function`](NameTable::function), by the name's text. What it says must be tested: nothing is proved of the table's names.
+    #[must_use]
+    pub fn function_named(&self, program: &Program, name: &str, params: usize) -> Option<usize> {
         self.function(program, self.index_of(name)?, params)
     }
 
     /// Whether the program has functions of this name with this number of parameters.
-    pub(crate) fn has_functions(&self, name: u32, params: usize) -> bool {
+    #[must_use]
+    pub fn has_functions(&self, name: u32, params: usize) -> bool {
         match self.meanings.get(name as usize) {
             Some(meaning) => meaning
                 .declared
@@ -142,7 +147,8 @@ impl Table {
 
     /// The function of the program that a method call on this value calls: one that is declared for its type, else one that is
     /// declared for no receiver.
-    pub(crate) fn method(
+    #[must_use]
+    pub fn method(
         &self,
         program: &Program,
         name: u32,

@@ -54,40 +54,41 @@ impl Fault {
 
 /// Why an operation fails, and at which step if it is a chain.
 #[derive(Drop)]
-pub(crate) struct Failure {
-    pub(crate) cause: Cause,
+pub struct OpError {
+    /// Why it fails.
+    pub cause: Cause,
     /// Where the step is in the source text, or none.
-    pub(crate) step: Position,
+    pub step: Position,
 }
 
-impl Failure {
+impl OpError {
     /// A step of a chain fails so.
     #[cold]
-    pub(crate) fn of_step(step: &Step, cause: Cause) -> Failure {
+    pub fn of_step(step: &Step, cause: Cause) -> OpError {
         let pos = match step {
             Step::Index { pos, .. } | Step::Property { pos, .. } | Step::Method { pos, .. } => *pos,
         };
-        Failure { cause, step: pos }
+        OpError { cause, step: pos }
     }
 }
 
-impl From<Cause> for Failure {
-    fn from(cause: Cause) -> Failure {
-        Failure {
+impl From<Cause> for OpError {
+    fn from(cause: Cause) -> OpError {
+        OpError {
             cause,
             step: Position::NONE,
         }
     }
 }
 
-impl From<AllocError> for Failure {
-    fn from(_: AllocError) -> Failure {
-        Failure::from(Cause::OutOfMemory)
+impl From<AllocError> for OpError {
+    fn from(_: AllocError) -> OpError {
+        OpError::from(Cause::OutOfMemory)
     }
 }
 
-impl<T: Drop> From<AllocFailed<T>> for Failure {
-    fn from(_: AllocFailed<T>) -> Failure {
-        Failure::from(Cause::OutOfMemory)
+impl<T: Drop> From<AllocFailed<T>> for OpError {
+    fn from(_: AllocFailed<T>) -> OpError {
+        OpError::from(Cause::OutOfMemory)
     }
 }

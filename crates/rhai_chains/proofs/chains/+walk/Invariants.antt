@@ -1,5 +1,5 @@
 use Rattle.std.proofs.Common.{length}
-use Rattle.rhai_runtime.proofs.chains.+walk.Given as goal
+use Rattle.rhai_chains.proofs.chains.+walk.Given as goal
 
 abbrev pub decreases-walk : goal.decreases-walk
 decreases-walk l = length l.steps.now

@@ -1,7 +1,7 @@
 //! Chains of accesses: parts of values by index, property and method.
 
-use crate::fault::Failure;
-use crate::table::Table;
+use crate::fault::OpError;
+use crate::table::NameTable;
 use grain::Program;
 use grain_pools::{Step, StepFlags};
 use rhai_library::{Callee, Function, call, item_of, item_place, operate, set_character};
@@ -12,20 +12,29 @@ use std::slice;
 
 /// What accesses need to know of the script.
 #[derive(Clone, Copy)]
-pub(crate) struct Context<'a> {
-    pub(crate) alloc: Global,
-    pub(crate) limits: SizeLimits,
-    pub(crate) program: &'a Program,
-    pub(crate) table: &'a Table,
+pub struct Context<'a> {
+    /// What takes the memory for values.
+    pub alloc: Global,
+    /// How large values may be.
+    pub limits: SizeLimits,
+    /// The program, whose indices steps have.
+    pub program: &'a Program,
+    /// What its names mean.
+    pub table: &'a NameTable,
 }
 
 /// What is done with the part of the value to which a chain leads.
 #[derive(Drop)]
-pub(crate) enum Goal {
+pub enum Goal {
     /// It is read.
     Read,
     /// This is assigned to it, by way of an op-assignment if there is one.
-    Assign { op: Option<u32>, value: Value },
+    Assign {
+        /// The index of the op-assignment.
+        op: Option<u32>,
+        /// The value.
+        value: Value,
+    },
 }
 
 /// A value on the way of a chain.
@@ -36,15 +45,18 @@ struct Part {
     is_taken: bool,
 }
 
-/// Goes along the steps from a value, whose parts may be changed in place, and gives what is read at their end; `None` if a step
-/// ends the chain early. A failure has the position of its step.
-pub(crate) fn walk(
+/// Follows the steps from a value, whose parts may be changed in place, and returns what is read at their end; `None` if a step
+/// ends the chain early. It recurses by the number of steps.
+///
+/// # Errors
+/// Why a step or the goal fails. The error of a step has its position. A part that was taken out goes back also then.
+pub fn walk(
     context: &Context<'_>,
     value: &mut Value,
     steps: &[Step],
     operands: &[Value],
     goal: Goal,
-) -> Result<Option<Value>, Failure> {
+) -> Result<Option<Value>, OpError> {
     let Some((step, rest)) = steps.split_first() else {
         return Ok(Some(finish(context, value, goal)?));
     };
@@ -72,11 +84,14 @@ pub(crate) fn walk(
     result
 }
 
-/// What came of a step, whose failure has its position.
-pub(crate) fn placed<T: Drop>(step: &Step, answer: Result<T, Cause>) -> Result<T, Failure> {
+/// The result of a step, whose error has its position.
+///
+/// # Errors
+/// That of the step.
+pub fn placed<T: Drop>(step: &Step, answer: Result<T, Cause>) -> Result<T, OpError> {
     match answer {
         Ok(value) => Ok(value),
-        Err(cause) => Err(Failure::of_step(step, cause)),
+        Err(cause) => Err(OpError::of_step(step, cause)),
     }
 }
 
@@ -107,9 +122,12 @@ fn finish(context: &Context<'_>, value: &mut Value, goal: Goal) -> Result<Value,
     }
 }
 
-/// Assigns to a variable or to a part of one, by way of an op-assignment if there is one.
+/// Assigns to a variable or to a part of one, by an op-assignment if there is one.
+///
+/// # Errors
+/// The operator doesn't take such operands, it fails, or out of memory: the place is as it was.
 #[inline]
-pub(crate) fn assign_to(
+pub fn assign_to(
     context: &Context<'_>,
     place: &mut Value,
     op: Option<u32>,
@@ -138,7 +156,7 @@ fn no_operator(context: &Context<'_>, name: u32, left: &Value, right: &Value) ->
 }
 
 /// Whether the step ends the chain, since it is taken on unit and says so.
-pub(crate) fn ends_early(value: &Value, step: &Step) -> bool {
+pub fn ends_early(value: &Value, step: &Step) -> bool {
     let flags = match step {
         Step::Index { flags, .. } | Step::Property { flags, .. } | Step::Method { flags, .. } => {
             *flags
@@ -197,7 +215,10 @@ fn taken_item(
 }
 
 /// The name of the entry to which a step leads.
-pub(crate) fn entry_name<'o>(
+///
+/// # Errors
+/// [`Cause::WrongType`] if the index is no text, [`Cause::Unsupported`] of a method.
+pub fn entry_name<'o>(
     program: &'o Program,
     step: &Step,
     operands: &'o [Value],
@@ -246,7 +267,10 @@ fn put_entry(
 }
 
 /// What a step without a method reads of a value.
-pub(crate) fn read(
+///
+/// # Errors
+/// The value has no such part, or out of memory.
+pub fn read(
     context: &Context<'_>,
     value: &Value,
     step: &Step,
@@ -345,11 +369,14 @@ fn called(
 }
 
 /// The keys of steps that are all indices and properties; `None` if one is a method.
-pub(crate) fn keys_of(
+///
+/// # Errors
+/// An index is neither an integer nor a text, or out of memory.
+pub fn keys_of(
     context: &Context<'_>,
     steps: &[Step],
     operands: &[Value],
-) -> Result<Option<Vec<Key>>, Failure> {
+) -> Result<Option<Vec<Key>>, OpError> {
     let mut keys = Vec::new(context.alloc);
     for step in steps {
         let key = match step {
@@ -359,12 +386,12 @@ pub(crate) fn keys_of(
                 Some(Value::Text(name)) => Key::Name(name.clone()?),
                 _ => {
                     let cause = Cause::WrongType("an integer or a string as index");
-                    return Err(Failure::of_step(step, cause));
+                    return Err(OpError::of_step(step, cause));
                 }
             },
             Step::Property { name, .. } => match context.table.name(*name) {
                 Some(name) => Key::Name(name.clone()?),
-                None => return Err(Failure::of_step(step, Cause::Unsupported)),
+                None => return Err(OpError::of_step(step, Cause::Unsupported)),
             },
         };
         keys.push(key)?;
