@@ -84,8 +84,10 @@ static inline grain_value grain_text(int64_t from, uint32_t len) {
 
 /* Writes the rows of a value of the host's own. */
 static inline void grain_foreign(grain_value rows[4], int64_t kind, int64_t number) {
-    rows[0].tag = GRAIN_VALUE_FOREIGN, rows[0].count = 0, rows[0].number = 0;
-    rows[1].tag = GRAIN_VALUE_RANGE, rows[1].count = 0, rows[1].number = 0;
+    rows[0] = grain_integer(0);
+    rows[0].tag = GRAIN_VALUE_FOREIGN;
+    rows[1] = grain_integer(0);
+    rows[1].tag = GRAIN_VALUE_RANGE;
     rows[2] = grain_integer(kind);
     rows[3] = grain_integer(number);
 }

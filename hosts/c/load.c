@@ -31,11 +31,15 @@ static int run(grain_state *state) {
     grain_event event = GRAIN_EVENT_IDLE;
     if (grain_state_begin(state, NULL, 0, NULL) == GRAIN_ACCEPTED)
         event = grain_state_resume(state, TURNS, NULL);
-    if (event == GRAIN_EVENT_RETURNED && grain_state_asked(state, &returned) == GRAIN_ACCEPTED)
-        return printf("result %lld\n", (long long)returned.values.rows[0].number), 0;
+    if (event == GRAIN_EVENT_RETURNED && grain_state_asked(state, &returned) == GRAIN_ACCEPTED) {
+        printf("result %lld\n", (long long)returned.values.rows[0].number);
+        return 0;
+    }
     if (event == GRAIN_EVENT_FAULTED && grain_state_fault(state, text, sizeof text) != 0)
-        return puts(text), 1;
-    return puts(event == GRAIN_EVENT_PAUSED ? "out of turns" : "out of memory"), 1;
+        puts(text);
+    else
+        puts(event == GRAIN_EVENT_PAUSED ? "out of turns" : "out of memory");
+    return 1;
 }
 
 int main(int argc, char **argv) {
