@@ -1,4 +1,4 @@
-//! Functions of the host, and what scripts print.
+//! Functions of the host.
 
 use crate::host::{
     answered, begin_error, begins, called, failed, made, number, returned, state_of,
@@ -17,8 +17,8 @@ const ASKING: &str = "
 ";
 
 /// A state in which the run of the top level waits for its first call of the host.
-fn asking(alloc: Global, source: &str, bounds: Bounds) -> Result<State, Fail> {
-    let mut state = state_of(alloc, source, bounds)?;
+fn asking(alloc: Global, bounds: Bounds) -> Result<State, Fail> {
+    let mut state = state_of(alloc, ASKING, bounds)?;
     state.register("ask", 1)?;
     if !begins(&mut state) || returned(&mut state) != -2 {
         return Err(Fail::new("the run doesn't wait"));
@@ -56,7 +56,7 @@ fn answers(alloc: Global) -> Result<([i64; 3], bool), Fail> {
         size: SizeLimits { size: 50, depth: 5 },
         ..Bounds::DEFAULT
     };
-    let mut state = asking(alloc, ASKING, bounds)?;
+    let mut state = asking(alloc, bounds)?;
     let first = argument(&state);
     let _waits = answered(&mut state, 5);
     let second = argument(&state);
@@ -79,7 +79,7 @@ fn nested(alloc: Global) -> Result<[i64; 4], Fail> {
         runs: 1,
         ..Bounds::DEFAULT
     };
-    let mut state = asking(alloc, ASKING, bounds)?;
+    let mut state = asking(alloc, bounds)?;
     let doubled = called(alloc, &mut state, "double", 21)?;
     // A nested run of `outer` waits for a call of its own, and no third run begins.
     let waits = called(alloc, &mut state, "outer", 3)?;
@@ -99,45 +99,4 @@ fn nested(alloc: Global) -> Result<[i64; 4], Fail> {
 #[test]
 fn functions_run_while_a_call_waits(rt: HostRuntime) {
     assert!(&rt; made(&rt, nested(rt.alloc())) == [42, -2, 3, 7]);
-}
-
-/// Whether a receiver that the host changes is changed in its variable.
-fn receiver(alloc: Global) -> Result<i64, Fail> {
-    let mut state = asking(alloc, "let x = 3; x.ask(); x", Bounds::DEFAULT)?;
-    let old = number(state.replace_receiver(Value::Int(8)).as_ref());
-    if old != 3 {
-        return Err(Fail::new("the receiver is another one"));
-    }
-    Ok(answered(&mut state, 0))
-}
-
-#[test]
-fn a_receiver_changes(rt: HostRuntime) {
-    assert!(&rt; made(&rt, receiver(rt.alloc())) == 8);
-}
-
-/// What is printed by a script that prints more than is kept, and how its run ends.
-fn printed(alloc: Global) -> Result<(String, i64), Fail> {
-    let bounds = Bounds {
-        printed: 8,
-        ..Bounds::DEFAULT
-    };
-    let source = "try { for i in 1..9 { print(i * 100); } } catch { }";
-    let mut state = state_of(alloc, source, bounds)?;
-    if !begins(&mut state) {
-        return Err(Fail::new("no run begins"));
-    }
-    let ended = returned(&mut state);
-    let text = String::from_str(alloc, state.printed())?;
-    state.clear_printed();
-    if state.printed() != "" {
-        return Err(Fail::new("the output isn't cleared"));
-    }
-    Ok((text, ended))
-}
-
-#[test]
-fn output_is_bounded(rt: HostRuntime) {
-    let (text, ended) = made(&rt, printed(rt.alloc()));
-    assert!(&rt; text.as_str() == "100\n200\n" && ended == -3);
 }
