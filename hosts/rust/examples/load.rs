@@ -11,7 +11,7 @@ fn answer(bytes: &[u8]) -> Result<Value, Box<dyn Error>> {
     let script = match engine.bounds(bounds).load(bytes) {
         Err(LoadError::Refused(refusal)) => {
             let file = ProgramFile::read(bytes, &Limits::new())?;
-            return Err(file.explain(Caps::ALL, &refusal)?.to_string().into());
+            return Err(file.explain(Caps::ALL, refusal)?.to_string().into());
         }
         loaded => loaded?,
     };

@@ -2,7 +2,6 @@
 use super::error::HostError;
 use super::state::State;
 use super::values::{FromValue, Value};
-use std::collections::{BTreeMap, HashMap};
 use std::marker::PhantomData;
 use std::sync::Arc;
 use std::vec::Drain;
@@ -63,24 +62,48 @@ pub(crate) enum Function {
     Declared,
 }
 
-/// The functions of a host, by their names and numbers of arguments.
+/// A function of a host by its name and number of arguments.
+#[derive(Clone)]
+struct Named {
+    name: String,
+    parameters: u32,
+    function: Function,
+}
+
+/// The functions of a host, ordered by their names and numbers of arguments. A binary search is faster here than a hash of the name,
+/// which each call of a script would take.
 #[derive(Clone, Default)]
-pub(crate) struct Functions(HashMap<String, BTreeMap<u32, Function>>);
+pub(crate) struct Functions(Vec<Named>);
 
 impl Functions {
+    fn find(&self, name: &str, parameters: u32) -> Result<usize, usize> {
+        self.0
+            .binary_search_by(|known| (&*known.name, known.parameters).cmp(&(name, parameters)))
+    }
+
     pub(crate) fn insert(&mut self, name: &str, parameters: u32, function: Function) {
-        let named = self.0.entry(name.into()).or_default();
-        named.insert(parameters, function);
+        match self.find(name, parameters) {
+            Ok(index) => self.0[index].function = function,
+            Err(index) => {
+                let name = name.into();
+                let named = Named {
+                    name,
+                    parameters,
+                    function,
+                };
+                self.0.insert(index, named);
+            }
+        }
     }
 
     pub(crate) fn get(&self, name: &str, arguments: usize) -> Option<&Function> {
-        self.0.get(name)?.get(&u32::try_from(arguments).ok()?)
+        let index = self.find(name, u32::try_from(arguments).ok()?).ok()?;
+        Some(&self.0[index].function)
     }
 
     /// Their names and numbers of arguments.
     pub(crate) fn keys(&self) -> impl Iterator<Item = (&str, u32)> {
-        let all = self.0.iter();
-        all.flat_map(|(name, named)| named.keys().map(move |parameters| (&**name, *parameters)))
+        self.0.iter().map(|known| (&*known.name, known.parameters))
     }
 }
 
