@@ -30,6 +30,31 @@ pub struct Site {
     pub column: u32,
 }
 
+impl Site {
+    /// No place in a script.
+    pub const NONE: Site = Site { line: 0, column: 0 };
+
+    /// The place of the first character.
+    pub const START: Site = Site { line: 1, column: 1 };
+
+    /// Whether it is a place in a script.
+    #[must_use]
+    pub fn is_some(self) -> bool
+        ensures { IsTrue result ↔ 0 < self.line }
+    {
+        self.line > 0
+    }
+}
+
+/// The line and the column, with a colon between them.
+impl fmt::Display for Site {
+    fn fmt<W: fmt::Write>(&self, f: &mut fmt::Formatter<W>) -> fmt::Result {
+        let line = self.line;
+        let column = self.column;
+        write!(f, "{line}:{column}")
+    }
+}
+
 /// What is wrong with bytes that are no address table.
 #[derive(Clone, Copy, PartialEq, Eq)]
 pub enum Error {

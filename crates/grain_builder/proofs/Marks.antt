@@ -107,26 +107,26 @@ module _ (k : Workings) (s : IsWellMade k) where
   }
 
   -- a label that isn't bound, at which this is found
-  pub one_label : (p : Spot) → IsWellMade (record k { labels = k.labels ++ p ∷ []; outers = k.outers ++ k.pending ∷ []; places = k.places ++ nowhere ∷ []; pending = length k.places + 1 })
+  pub one_label : (p : Spot) → IsWellMade (record k { labels = k.labels ++ p ∷ []; outers = k.outers ++ k.pending ∷ []; targets = k.targets ++ nowhere ∷ []; pending = length k.targets + 1 })
   one_label p = record {
     spots = s.spots;
     fitting = fitting_longer k.chains k.chains k.tables k.tables k.labels (k.labels ++ p ∷ []) k.ops s.spots (keeps_itself k.chains) (keeps_itself k.tables) (get_left k.labels (p ∷ [])) s.fitting;
     count = s.count;
     last = s.last;
-    lengths = let a = s.lengths.0 in let b = s.lengths.1 in let c = length-append k.labels (p ∷ []) in let d = length-append k.places (nowhere ∷ []) in let e = length-append k.outers (k.pending ∷ []) in (omega arith, omega arith);
-    landing = λ l at q a b c. elim (get_cases k.places nowhere l at a) [
+    lengths = let a = s.lengths.0 in let b = s.lengths.1 in let c = length-append k.labels (p ∷ []) in let d = length-append k.targets (nowhere ∷ []) in let e = length-append k.outers (k.pending ∷ []) in (omega arith, omega arith);
+    landing = λ l at q a b c. elim (get_cases k.targets nowhere l at a) [
       | inr new ↦ absurd (let e = new.1 in let h = c in omega arith)
       | inl old ↦ elim (get_cases k.labels p l q b) [
         | inl there ↦ s.landing l at q old there c
-        | inr far ↦ absurd (let e = far.0 in let h = slice_get_within k.places l at old in let a = s.lengths.0 in omega arith)
+        | inr far ↦ absurd (let e = far.0 in let h = slice_get_within k.targets l at old in let a = s.lengths.0 in omega arith)
       ]
     ];
     homes = s.homes;
     home = s.home;
     begun = s.begun;
     bound = record {
-      behind = λ l at h e. absurd (let g = slice_get_within (k.places ++ nowhere ∷ []) l at e in let d = length-append k.places (nowhere ∷ []) in omega arith);
-      between = λ l o j at a low below e. elim (get_cases k.places nowhere j at e) [
+      behind = λ l at h e. absurd (let g = slice_get_within (k.targets ++ nowhere ∷ []) l at e in let d = length-append k.targets (nowhere ∷ []) in omega arith);
+      between = λ l o j at a low below e. elim (get_cases k.targets nowhere j at e) [
         | inr new ↦ absurd (let g = slice_get_within (k.outers ++ k.pending ∷ []) l o a in let d = length-append k.outers (k.pending ∷ []) in let b = s.lengths.1 in let q = new.0 in omega arith)
         | inl there ↦ elim (get_cases k.outers k.pending l o a) [
           | inl old ↦ s.bound.between l o j at old low below there
@@ -141,14 +141,14 @@ module _ (k : Workings) (s : IsWellMade k) where
   }
 
   -- the last label that is open is bound to the next operation
-  pub one_bound : k.fixed ≡ true → (l o : ℕ) → slice_get k.labels l ≡ Some (spot k.operands k.level) → slice_get k.outers l ≡ Some o → k.pending ≡ l + 1 → length k.ops < nowhere → IsWellMade (record k { places = set k.places l (length k.ops); pending = o })
+  pub one_bound : k.fixed ≡ true → (l o : ℕ) → slice_get k.labels l ≡ Some (spot k.operands k.level) → slice_get k.outers l ≡ Some o → k.pending ≡ l + 1 → length k.ops < nowhere → IsWellMade (record k { targets = set k.targets l (length k.ops); pending = o })
   one_bound here l o is outer innermost few = record {
     spots = s.spots;
     fitting = s.fitting;
     count = s.count;
     last = s.last;
-    lengths = let a = s.lengths.0 in let b = s.lengths.1 in let c = length-set k.places l (length k.ops) in (omega arith, omega arith);
-    landing = λ j at p a b c. elim (set_cases k.places l (length k.ops) j at a) [
+    lengths = let a = s.lengths.0 in let b = s.lengths.1 in let c = length-set k.targets l (length k.ops) in (omega arith, omega arith);
+    landing = λ j at p a b c. elim (set_cases k.targets l (length k.ops) j at a) [
       | inl old ↦ s.landing j at p old.0 b c
       | inr new ↦
           let e : Some (spot k.operands k.level) ≡ Some p = sym is ∙ subst (λ m. slice_get k.labels m ≡ Some p) new.0 b in
@@ -158,7 +158,7 @@ module _ (k : Workings) (s : IsWellMade k) where
     home = s.home;
     begun = s.begun;
     bound = record {
-      behind = λ j at h e. elim (set_cases k.places l (length k.ops) j at e) [
+      behind = λ j at h e. elim (set_cases k.targets l (length k.ops) j at e) [
         | inr new ↦ let q = new.1 in let f = few in omega arith
         | inl old ↦ elim (cases_lt j l) [
           | inl below ↦ s.bound.between l o j at outer h below old.0
@@ -168,7 +168,7 @@ module _ (k : Workings) (s : IsWellMade k) where
           ]
         ]
       ];
-      between = λ m n j at a low below e. elim (set_cases k.places l (length k.ops) j at e) [
+      between = λ m n j at a low below e. elim (set_cases k.targets l (length k.ops) j at e) [
         | inr new ↦ let q = new.1 in let f = few in omega arith
         | inl old ↦ s.bound.between m n j at a low below old.0
       ];
@@ -228,7 +228,7 @@ one_chunk k s loose cut is =
     }
 
 -- nothing is assembled yet
-pub started : IsWellMade (record { ops = []; chains = []; tables = []; labels = []; outers = []; places = []; cuts = []; operands = 0; level = fresh 0; pending = 0; fixed = true })
+pub started : IsWellMade (record { ops = []; chains = []; tables = []; labels = []; outers = []; targets = []; cuts = []; operands = 0; level = fresh 0; pending = 0; fixed = true })
 started =
     record {
       spots = spot 0 (fresh 0) ∷ [];

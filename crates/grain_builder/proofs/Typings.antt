@@ -65,25 +65,25 @@ targets_among leads tables among flows.EndsIterator b c = c
 targets_among leads tables among (flows.PushesHandler t) b c = c
 targets_among leads tables among flows.PopsHandler b c = c
 
--- the place of a label that is bound is that of an operation, or behind the last one
+-- a label that is bound is bound to an operation, or behind the last one
 module _ (k : Workings) (sound : IsWellMade k) (closed : k.pending ≡ 0) where
-  pub place_within : (l : ℕ) → slice_index k.places l ≤ length k.ops
-  place_within l = elim (cases_lt l (length k.places)) [
-    | inr far ↦ let e = get_or_past k.places l 0 far in omega arith
+  pub target_within : (l : ℕ) → slice_index k.targets l ≤ length k.ops
+  target_within l = elim (cases_lt l (length k.targets)) [
+    | inr far ↦ let e = get_or_past k.targets l 0 far in omega arith
     | inl near ↦
         let same = sound.lengths.0 in
-        let place : slice_get k.places l ≡ Some (get_or k.places l 0) = slice_get-get_or k.places l 0 near in
+        let bound : slice_get k.targets l ≡ Some (get_or k.targets l 0) = slice_get-get_or k.targets l 0 near in
         let label : slice_get k.labels l ≡ Some (get_or k.labels l (spot_of 0 nothing)) = slice_get-get_or k.labels l (spot_of 0 nothing) (omega arith) in
-        let here = sound.landing l (get_or k.places l 0) (get_or k.labels l (spot_of 0 nothing)) place label (sound.bound.behind l (get_or k.places l 0) (omega arith) place) in
-        let few = slice_get_within sound.spots (get_or k.places l 0) (get_or k.labels l (spot_of 0 nothing)) here in
+        let here = sound.landing l (get_or k.targets l 0) (get_or k.labels l (spot_of 0 nothing)) bound label (sound.bound.behind l (get_or k.targets l 0) (omega arith) bound) in
+        let few = slice_get_within sound.spots (get_or k.targets l 0) (get_or k.labels l (spot_of 0 nothing)) here in
         let count = sound.count in
         let one : cond k.fixed 1 0 ≤ 1 = at_most_one k.fixed in
         omega arith
   ]
 
-  pub lead_within : LeadWithin (length k.ops) (resolved_tables k.places k.tables)
-  lead_within = All-map (All (λ (t : ℕ). t ≤ length k.ops)) (map (slice_index k.places)) k.tables
-      (λ j d h. All-map (λ (t : ℕ). t ≤ length k.ops) (slice_index k.places) (get_or k.tables j d) (λ i e g. place_within (get_or (get_or k.tables j d) i e)))
+  pub lead_within : LeadWithin (length k.ops) (resolved_tables k.targets k.tables)
+  lead_within = All-map (All (λ (t : ℕ). t ≤ length k.ops)) (map (slice_index k.targets)) k.tables
+      (λ j d h. All-map (λ (t : ℕ). t ≤ length k.ops) (slice_index k.targets) (get_or k.tables j d) (λ i e g. target_within (get_or (get_or k.tables j d) i e)))
 
   pub are_cuts : All (IsCut (length k.ops)) k.cuts
   are_cuts j d h =
@@ -96,15 +96,15 @@ module _ (k : Workings) (sound : IsWellMade k) (closed : k.pending ≡ 0) where
         inside = chunk.inside;
       }
 
-module _ (k : Workings) (sound : IsWellMade k) (closed : k.pending ≡ 0) (s : Setting) (leads : List (List ℕ)) (chains : HasChains s k.chains) (allowed : (op : Op) → Allows s.caps (caps_of s op)) (among : LeadAmong leads (resolved_tables k.places k.tables)) (cut : Span) (chunk : IsChunk k.ops sound.spots cut) where
+module _ (k : Workings) (sound : IsWellMade k) (closed : k.pending ≡ 0) (s : Setting) (leads : List (List ℕ)) (chains : HasChains s k.chains) (allowed : (op : Op) → Allows s.caps (caps_of s op)) (among : LeadAmong leads (resolved_tables k.targets k.tables)) (cut : Span) (chunk : IsChunk k.ops sound.spots cut) where
   abbrev typing : ℕ → Option Counts
   typing at = counts_within cut.entry (slice_get sound.spots at)
 
   abbrev listed : List Op
-  listed = map (resolved_op k.places) k.ops
+  listed = map (resolved_op k.targets) k.ops
 
   abbrev tables : List (List ℕ)
-  tables = resolved_tables k.places k.tables
+  tables = resolved_tables k.targets k.tables
 
   own_tables : HasTables k.tables k.tables
   own_tables w t e = get_or_from_slice_get k.tables w t [] e
@@ -119,8 +119,8 @@ module _ (k : Workings) (sound : IsWellMade k) (closed : k.pending ≡ 0) (s : S
   typed_at : (at : ℕ) (p : Spot) → slice_get sound.spots at ≡ Some p → p.home ≡ cut.entry → typing at ≡ Some (spot_counts p)
   typed_at at p e h = ap (counts_within cut.entry) e ∙ ap (λ (b : Bool). cond b (Some (spot_counts p)) None) (eq-eqb p.home cut.entry h)
 
-  read_resolved : (i : ℕ) (op : Op) → slice_get k.ops i ≡ Some op → slice_get listed i ≡ Some (resolved_op k.places op)
-  read_resolved i op e = slice_get-map (resolved_op k.places) k.ops i ∙ ap (option_map (resolved_op k.places)) e
+  read_resolved : (i : ℕ) (op : Op) → slice_get k.ops i ≡ Some op → slice_get listed i ≡ Some (resolved_op k.targets op)
+  read_resolved i op e = slice_get-map (resolved_op k.targets) k.ops i ∙ ap (option_map (resolved_op k.targets)) e
 
   met : (at : ℕ) (c : Counts) → typing at ≡ Some c → (op : Op) × Passes (code_by_index s listed leads) cut at c op
   met at c e =
@@ -128,28 +128,28 @@ module _ (k : Workings) (sound : IsWellMade k) (closed : k.pending ≡ 0) (s : S
       let o = op_there at w.0 w.1 w.2 in
       let fits = sound.fitting.fits at o.0 w.0 o.1 w.1 in
       let read = read_resolved at o.0 o.1 in (
-        resolved_op k.places o.0,
+        resolved_op k.targets o.0,
         record {
           stands = record {
             within = record {
               entry = let h = sound.homes at w.0 w.1 in let g : w.0.home ≡ cut.entry = w.2 in omega arith;
               end = elim (cases_lt at cut.end) [ inl l ↦ l | inr g ↦ absurd (chunk.behind at w.0 g w.1 w.2) ];
-              place = slice_get_within listed at (resolved_op k.places o.0) read;
+              place = slice_get_within listed at (resolved_op k.targets o.0) read;
             };
             is = read;
           };
-          meets = subst (λ (x : Counts). Meets s (resolved_op k.places o.0) x) w.3 (meets_there s (along k.places o.0) (spot_counts w.0) (fits.meets s chains));
-          allowed = allowed (resolved_op k.places o.0);
-          stays = subst (λ (x : Counts). Stays s (resolved_op k.places o.0) x) w.3 (stays_there s (along k.places o.0) (spot_counts w.0) (fits.stays s chains));
+          meets = subst (λ (x : Counts). Meets s (resolved_op k.targets o.0) x) w.3 (meets_there s (along k.targets o.0) (spot_counts w.0) (fits.meets s chains));
+          allowed = allowed (resolved_op k.targets o.0);
+          stays = subst (λ (x : Counts). Stays s (resolved_op k.targets o.0) x) w.3 (stays_there s (along k.targets o.0) (spot_counts w.0) (fits.stays s chains));
         },
       )
 
-  label_there : (l : ℕ) (p : Spot) → slice_get k.labels l ≡ Some p → slice_get sound.spots (slice_index k.places l) ≡ Some p
+  label_there : (l : ℕ) (p : Spot) → slice_get k.labels l ≡ Some p → slice_get sound.spots (slice_index k.targets l) ≡ Some p
   label_there l p e =
       let inside : l < length k.labels = slice_get_within k.labels l p e in
       let same = sound.lengths.0 in
-      let here : slice_get k.places l ≡ Some (get_or k.places l 0) = slice_get-get_or k.places l 0 (omega arith) in
-      sound.landing l (get_or k.places l 0) p here e (sound.bound.behind l (get_or k.places l 0) (omega arith) here)
+      let here : slice_get k.targets l ≡ Some (get_or k.targets l 0) = slice_get-get_or k.targets l 0 (omega arith) in
+      sound.landing l (get_or k.targets l 0) p here e (sound.bound.behind l (get_or k.targets l 0) (omega arith) here)
 
   closed_edges : (at : ℕ) (c : Counts) (op : Op) (b : ℕ) (d : Counts) → typing at ≡ Some c → slice_get listed at ≡ Some op → Edge (code_by_index s listed leads) op at c b d → typing b ≡ Some d
   closed_edges at c op b d e r edge =
@@ -157,21 +157,21 @@ module _ (k : Workings) (sound : IsWellMade k) (closed : k.pending ≡ 0) (s : S
       let p = w.0 in
       let o = op_there at p w.1 w.2 in
       let fits = sound.fitting.fits at o.0 p o.1 w.1 in
-      let read : slice_get listed at ≡ Some (resolved_op k.places o.0) = read_resolved at o.0 o.1 in
-      let same : op ≡ resolved_op k.places o.0 = some_inj (sym r ∙ read) in
-      let there : Edge (code_by_index s listed leads) (resolved_op k.places o.0) at (spot_counts p) b d =
+      let read : slice_get listed at ≡ Some (resolved_op k.targets o.0) = read_resolved at o.0 o.1 in
+      let same : op ≡ resolved_op k.targets o.0 = some_inj (sym r ∙ read) in
+      let there : Edge (code_by_index s listed leads) (resolved_op k.targets o.0) at (spot_counts p) b d =
       subst (λ (x : Op). Edge (code_by_index s listed leads) x at (spot_counts p) b d) same
       (subst (λ (x : Counts). Edge (code_by_index s listed leads) op at x b d) (sym w.3) edge) in
       elim there [
         | inl j ↦
-            let t = target_from (along k.places o.0) k.tables b (targets_among leads tables among (flow_of (resolved_op k.places o.0)) b j.0) in
+            let t = target_from (along k.targets o.0) k.tables b (targets_among leads tables among (flow_of (resolved_op k.targets o.0)) b j.0) in
             let found = label_there t.0 _ (fits.jumps s k.tables t.0 chains own_tables t.1) in
             typed_at b _ (subst (λ (n : ℕ). slice_get sound.spots n ≡ Some (spot_of p.home (after_jump s o.0 (spot_counts p)))) t.2 found) w.2
-            ∙ ap (λ (x : Counts). Some x) (sym (j.1 ∙ jump_same s (along k.places o.0) (spot_counts p)))
+            ∙ ap (λ (x : Counts). Some x) (sym (j.1 ∙ jump_same s (along k.targets o.0) (spot_counts p)))
         | inr f ↦
-            let found = sound.fitting.falls at o.0 p s o.1 w.1 chains (sym (falls_same (along k.places o.0)) ∙ f.0) in
+            let found = sound.fitting.falls at o.0 p s o.1 w.1 chains (sym (falls_same (along k.targets o.0)) ∙ f.0) in
             typed_at b _ (subst (λ (n : ℕ). slice_get sound.spots n ≡ Some (spot_of p.home (after_fall s o.0 (spot_counts p)))) (sym f.1) found) w.2
-            ∙ ap (λ (x : Counts). Some x) (sym (f.2 ∙ fall_same s (along k.places o.0) (spot_counts p)))
+            ∙ ap (λ (x : Counts). Some x) (sym (f.2 ∙ fall_same s (along k.targets o.0) (spot_counts p)))
       ]
 
   shallow : (at : ℕ) (c : Counts) → typing at ≡ Some c → c.operands ≤ cut.max_stack

@@ -1,7 +1,7 @@
 -- What the fields of an assembler say.
 use Rattle.std.specs.Prelude.{ℕ, List, [], ◌∷◌, ◌++◌, map}
 use Rattle.grain_code.specs.declared.op.Op.{Op}
-use Rattle.rhai_lexer.specs.declared.error.Place.{Place}
+use Rattle.grain_base.specs.declared.pos.Site.{Site}
 use Rattle.grain_builder.specs.Sound.{Workings}
 use Rattle.grain_builder.specs.Unfinished.{Spot, Unfinished, spot}
 use Rattle.grain_builder.specs.declared.assembler.Assembler.TheInside.{Inside}
@@ -10,16 +10,16 @@ use Rattle.grain_builder.specs.declared.assembler.PlacedOp.{PlacedOp}
 use Rattle.grain_builder.specs.declared.assembler.TableTargets.{TableTargets}
 
 abbrev pub spot_at : Label → Spot
-spot_at l = spot l.operands l.frame
+spot_at l = spot l.operands l.level
 
 abbrev pub op_in : PlacedOp → Op
 op_in p = p.op
 
-abbrev pub place_in : PlacedOp → Place
+abbrev pub place_in : PlacedOp → Site
 place_in p = p.place
 
-abbrev pub label_place : Label → ℕ
-label_place l = l.at
+abbrev pub label_target : Label → ℕ
+label_target l = l.at
 
 -- all targets of a switch
 abbrev pub targets_of : TableTargets → List ℕ
@@ -32,10 +32,10 @@ workings_of a = record {
   tables = map targets_of a.tables.items;
   labels = map spot_at a.labels.items;
   outers = map (λ (l : Label). l.outer) a.labels.items;
-  places = map label_place a.labels.items;
+  targets = map label_target a.labels.items;
   cuts = a.cuts.items;
   operands = a.operands;
-  level = a.frame;
+  level = a.level;
   pending = a.pending;
   fixed = a.is_fixed;
 }
@@ -43,7 +43,7 @@ workings_of a = record {
 abbrev pub written : Inside → Unfinished
 written a = record {
   operands = a.operands;
-  level = a.frame;
+  level = a.level;
   labels = map spot_at a.labels.items;
   outers = map (λ (l : Label). l.outer) a.labels.items;
   pending = a.pending;

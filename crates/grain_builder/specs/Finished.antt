@@ -13,7 +13,7 @@ use Rattle.grain_builder.specs.Assembled.{targets_of}
 use Rattle.grain_builder.specs.Fitting.{HasChains}
 use Rattle.grain_builder.specs.declared.resolving.Assembled.{Assembled}
 
--- wherever these switches lead, the switches at the same places among others lead too
+-- wherever these switches lead, the switches of the same indices among others lead too
 abbrev pub LeadAmong : List (List ℕ) → List (List ℕ) → Type 0
 LeadAmong leads tables = (w l : ℕ) → Contains (get_or leads w []) l → Contains (get_or tables w []) l
 

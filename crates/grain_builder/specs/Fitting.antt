@@ -33,7 +33,7 @@ pub record FitsAt (chains : List Chain) (tables : List (List ℕ)) (labels : Lis
   pub stays : (s : Setting) → HasChains s chains → Stays s op (spot_counts p)
   pub jumps : (s : Setting) (all : List (List ℕ)) (l : ℕ) → HasChains s chains → HasTables all tables → Contains (targets all op) l → slice_get labels l ≡ Some (spot_of p.home (after_jump s op (spot_counts p)))
 
--- Each operation fits at the spot of its place, and the next place has the spot that it leaves if it falls through.
+-- Each operation fits at its spot, and the next spot is what it leaves if it falls through.
 pub record AreFitting (chains : List Chain) (tables : List (List ℕ)) (labels : List Spot) (ops : List Op) (spots : List Spot) : Type 0 where
   pub fits : (i : ℕ) (op : Op) (p : Spot) → slice_get ops i ≡ Some op → slice_get spots i ≡ Some p → FitsAt chains tables labels op p
   pub falls : (i : ℕ) (op : Op) (p : Spot) (s : Setting) → slice_get ops i ≡ Some op → slice_get spots i ≡ Some p → HasChains s chains → falls_through op ≡ true → slice_get spots (i + 1) ≡ Some (spot_of p.home (after_fall s op (spot_counts p)))

@@ -2,6 +2,6 @@ pub mod Unfinished
 pub mod Fitting
 pub mod Sound
 pub mod Resolved
-pub mod Frames
+pub mod Levels
 pub mod Assembled
 pub mod Finished

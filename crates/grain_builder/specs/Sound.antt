@@ -15,18 +15,18 @@ pub record Workings : Type 0 where
   pub tables : List (List ℕ)
   pub labels : List Spot
   pub outers : List ℕ
-  pub places : List ℕ
+  pub targets : List ℕ
   pub cuts : List Span
   pub operands : ℕ
   pub level : Level
   pub pending : ℕ
   pub fixed : Bool
 
--- the place of a label that isn't bound
+-- what a label is bound to that isn't bound yet
 abbrev pub nowhere : ℕ
 nowhere = 4294967295
 
--- a chunk that begins with nothing on the stacks, and nothing behind it is one of its places
+-- a chunk that begins with nothing on the stacks, and nothing behind it is part of it
 pub record IsChunk (ops : List Op) (spots : List Spot) (cut : Span) : Type 0 where
   pub entry : slice_get spots cut.entry ≡ Some (spot_of cut.entry nothing)
   pub inside : cut.end ≤ length ops
@@ -34,9 +34,9 @@ pub record IsChunk (ops : List Op) (spots : List Spot) (cut : Span) : Type 0 whe
   pub behind : (i : ℕ) (p : Spot) → cut.end ≤ i → slice_get spots i ≡ Some p → p.home ≡ cut.entry → ⊥
 
 -- Labels from the open ones on are bound, and so are those between a label and the ones that were open around it.
-pub record AreBound (outers places : List ℕ) (pending : ℕ) : Type 0 where
-  pub behind : (l at : ℕ) → pending ≤ l → slice_get places l ≡ Some at → at < nowhere
-  pub between : (l o k at : ℕ) → slice_get outers l ≡ Some o → o ≤ k → k < l → slice_get places k ≡ Some at → at < nowhere
+pub record AreBound (outers targets : List ℕ) (pending : ℕ) : Type 0 where
+  pub behind : (l at : ℕ) → pending ≤ l → slice_get targets l ≡ Some at → at < nowhere
+  pub between : (l o k at : ℕ) → slice_get outers l ≡ Some o → o ≤ k → k < l → slice_get targets k ≡ Some at → at < nowhere
 
 -- the last handler stands on at most this many iterators, and each other one on no more than the one that was armed after it
 abbrev pub AreNested : ℕ → List Base → Type 0
@@ -55,12 +55,12 @@ pub record IsWellMade (k : Workings) : Type 0 where
   pub fitting : AreFitting k.chains k.tables k.labels k.ops spots
   pub count : length spots ≡ length k.ops + cond k.fixed 1 0
   pub last : k.fixed ≡ true → slice_get spots (length k.ops) ≡ Some (spot k.operands k.level)
-  pub lengths : (length k.labels ≡ length k.places) × (length k.outers ≡ length k.places)
-  pub landing : (l at : ℕ) (p : Spot) → slice_get k.places l ≡ Some at → slice_get k.labels l ≡ Some p → at < nowhere → slice_get spots at ≡ Some p
+  pub lengths : (length k.labels ≡ length k.targets) × (length k.outers ≡ length k.targets)
+  pub landing : (l at : ℕ) (p : Spot) → slice_get k.targets l ≡ Some at → slice_get k.labels l ≡ Some p → at < nowhere → slice_get spots at ≡ Some p
   pub homes : (i : ℕ) (p : Spot) → slice_get spots i ≡ Some p → p.home ≤ i
   pub home : k.level.home ≤ length k.ops
   pub begun : slice_get spots k.level.home ≡ Some (spot_of k.level.home nothing)
-  pub bound : AreBound k.outers k.places k.pending
+  pub bound : AreBound k.outers k.targets k.pending
   pub cuts : (j : ℕ) (cut : Span) → slice_get k.cuts j ≡ Some cut → IsChunk k.ops spots cut × (cut.end ≤ k.level.home)
   pub ended : 1 ≤ k.level.home → 1 ≤ length k.cuts
   pub room : k.operands ≤ 65535

@@ -1,7 +1,7 @@
 -- What is assembled, as the rules that write code see it.
 use Rattle.std.specs.Prelude.{◌≡◌, ℕ, ◌+◌, ◌-◌, Bool, true, List, [], ◌∷◌, drop, slice_get, Some}
 use Rattle.std.specs.List.{list_all}
-use Rattle.rhai_lexer.specs.declared.error.Place.{Place}
+use Rattle.grain_base.specs.declared.pos.Site.{Site}
 use Rattle.grain_rules.specs.Counts.{Base, last_base}
 
 -- What surrounds the operations that are written: how many operands and iterators have to stay, how many iterators there
@@ -13,7 +13,7 @@ pub record Level : Type 0 where
   pub bases : List Base
   pub home : ℕ
 
--- what the operation at a place finds: the counts of a typing, and where its chunk begins
+-- what an operation finds: the counts of a typing, and where its chunk begins
 pub record Spot : Type 0 where
   pub operands : ℕ
   pub iterators : ℕ
@@ -30,7 +30,7 @@ pub record Unfinished : Type 0 where
   pub outers : List ℕ
   pub pending : ℕ
   pub fixed : Bool
-  pub places : List Place
+  pub places : List Site
 
 -- this many operands at a level
 abbrev pub spot : ℕ → Level → Spot
@@ -50,8 +50,8 @@ pub record LeavesOperands (old new : Unfinished) (n : ℕ) : Type 0 where
 
 -- Each operation that was added has this place. It is said by tests: what all old places and this one pass, all new ones do, so
 -- that what is written one after the other is put together without a list of it.
-abbrev pub AddsPlace : Unfinished → Unfinished → Place → Type 0
-AddsPlace old new place = (test : Place → Bool) → test place ≡ true → list_all test old.places ≡ true → list_all test new.places ≡ true
+abbrev pub AddsPlace : Unfinished → Unfinished → Site → Type 0
+AddsPlace old new place = (test : Site → Bool) → test place ≡ true → list_all test old.places ≡ true → list_all test new.places ≡ true
 
 -- what surrounds the first operation of a chunk that begins there
 abbrev pub fresh : ℕ → Level

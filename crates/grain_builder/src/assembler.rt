@@ -1,9 +1,9 @@
 //! Operations in the making.
 
-use crate::frame::Frame;
+use crate::level::Level;
+use grain_base::pos::Site;
 use grain_code::{Chunk, Op};
 use grain_pools::Chain;
-use rhai_lexer::Place;
 use std::alloc::{AllocError, Global};
 use std::marker::Model;
 
@@ -17,7 +17,7 @@ pub struct Label {
     /// How many operands there are.
     pub operands: usize,
     /// What surrounds it.
-    pub frame: Frame,
+    pub level: Level,
 }
 
 /// An operation, whose targets are labels, and its place in the source text.
@@ -26,7 +26,7 @@ pub struct PlacedOp {
     /// The operation.
     pub op: Op,
     /// The place of the form that it is made from.
-    pub place: Place,
+    pub place: Site,
 }
 
 /// Where a switch leads.
@@ -48,7 +48,7 @@ pub struct Assembler {
     pub(crate) labels: Vec<Label>,
     pub(crate) cuts: Vec<Chunk>,
     pub(crate) operands: usize,
-    pub(crate) frame: Frame,
+    pub(crate) level: Level,
     pub(crate) pending: usize,
     pub(crate) is_fixed: bool,
 }
@@ -78,9 +78,9 @@ impl Assembler {
     }
 
     /// What surrounds the next operation.
-    pub fn frame(&self) -> Result<Frame, AllocError>
+    pub fn level(&self) -> Result<Level, AllocError>
         ensures { IfOk result (λ f. f ≡ self.now.level) }
     {
-        self.frame.copied()
+        self.level.clone()
     }
 }

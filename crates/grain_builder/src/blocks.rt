@@ -7,29 +7,30 @@ ghost use Rattle.grain_builder.specs.Assembled.{targets_of};
 ghost use Rattle.grain_builder.specs.Unfinished.{StaysIn, LeavesOperands, SameLabels, spot, level_with_handler, level_with_iterator, level_without_iterator, AddsPlace};
 
 use crate::assembler::{Assembler, PlacedOp, TableTargets};
-use crate::frame::Frame;
+use crate::level::Level;
 use crate::writing::{MAX_OPERANDS, too_many};
+use grain_base::pos::Site;
 use grain_code::Op;
 use grain_pools::Chain;
-use rhai_lexer::{CompileError, Place, Problem, Thing};
+use rhai_errors::{CompileError, Problem, Thing};
 
 impl Assembler {
     /// Takes a value and begins to go over it.
     ///
     /// # Errors
     /// The allocator refused.
-    pub fn begin_iterator(&mut self, place: Place) -> Result<(), CompileError>
+    pub fn begin_iterator(&mut self, place: Site) -> Result<(), CompileError>
         requires { self.old.level.floor + 1 ≤ self.old.operands }
         ensures operands { OnOk result (self.new.operands ≡ self.old.operands - 1) }
         ensures level { OnOk result (self.new.level ≡ level_with_iterator self.old.level) }
         ensures labels { OnOk result (SameLabels self.old self.new) }
         ensures placed { OnOk result (AddsPlace self.old self.new place) }
     {
-        let frame = self.frame.with_iterator(place)?;
+        let level = self.level.with_iterator(place)?;
         let op = Op::IterInit;
         self.ops.push(PlacedOp { op, place })?;
         self.operands -= 1;
-        self.frame = frame;
+        self.level = level;
         self.is_fixed = true;
         Ok(())
     }
@@ -40,7 +41,7 @@ impl Assembler {
     /// There are more operands than a chunk can declare, or the allocator refused.
     pub fn advance(
         &mut self,
-        place: Place,
+        place: Site,
         exit: u32,
         counter_slot: Option<u16>,
     ) -> Result<(), CompileError>
@@ -65,17 +66,17 @@ impl Assembler {
     ///
     /// # Errors
     /// The allocator refused.
-    pub fn drop_iterator(&mut self, place: Place) -> Result<(), CompileError>
+    pub fn drop_iterator(&mut self, place: Site) -> Result<(), CompileError>
         requires { self.old.level.least + 1 ≤ self.old.level.iterators }
         ensures operands { OnOk result (self.new.operands ≡ self.old.operands) }
         ensures level { OnOk result (self.new.level ≡ level_without_iterator self.old.level) }
         ensures labels { OnOk result (SameLabels self.old self.new) }
         ensures placed { OnOk result (AddsPlace self.old self.new place) }
     {
-        let frame = self.frame.without_iterator()?;
+        let level = self.level.without_iterator()?;
         let op = Op::IterDrop;
         self.ops.push(PlacedOp { op, place })?;
-        self.frame = frame;
+        self.level = level;
         self.is_fixed = true;
         Ok(())
     }
@@ -96,15 +97,15 @@ impl Assembler {
         ensures places { OnOk result (self.new.places ≡ self.old.places) }
     {
         let operands = self.operands;
-        let frame = self.frame.with_handler(operands)?;
-        self.label_in(operands, frame)
+        let level = self.level.with_handler(operands)?;
+        self.label_in(operands, level)
     }
 
     /// Arms a handler, which catches at the label.
     ///
     /// # Errors
     /// The allocator refused.
-    pub fn arm(&mut self, place: Place, label: u32, name: Option<u32>) -> Result<(), CompileError>
+    pub fn arm(&mut self, place: Site, label: u32, name: Option<u32>) -> Result<(), CompileError>
         requires room { self.old.level.floor ≤ self.old.operands }
         requires there { slice_get self.old.labels label
             ≡ Some (spot self.old.operands (level_with_handler self.old.operands self.old.level)) }
@@ -113,13 +114,13 @@ impl Assembler {
         ensures labels { OnOk result (SameLabels self.old self.new) }
         ensures placed { OnOk result (AddsPlace self.old self.new place) }
     {
-        let frame = self.frame.with_handler(self.operands)?;
+        let level = self.level.with_handler(self.operands)?;
         let op = Op::PushHandler {
             target: label,
             catch_var: name,
         };
         self.ops.push(PlacedOp { op, place })?;
-        self.frame = frame;
+        self.level = level;
         self.is_fixed = true;
         Ok(())
     }
@@ -128,7 +129,7 @@ impl Assembler {
     ///
     /// # Errors
     /// The allocator refused.
-    pub fn disarm(&mut self, place: Place, outer: Frame) -> Result<(), CompileError>
+    pub fn disarm(&mut self, place: Site, outer: Level) -> Result<(), CompileError>
         requires armed { 1 ≤ length self.old.level.bases }
         requires bases { outer.bases ≡ without_last self.old.level.bases }
         requires iterators { outer.iterators ≡ self.old.level.iterators }
@@ -141,7 +142,7 @@ impl Assembler {
         let _based = &outer.floor;
         let op = Op::PopHandler;
         self.ops.push(PlacedOp { op, place })?;
-        self.frame = outer;
+        self.level = outer;
         self.is_fixed = true;
         Ok(())
     }
@@ -151,7 +152,7 @@ impl Assembler {
     ///
     /// # Errors
     /// There are too many switches, or the allocator refused.
-    pub fn switch(&mut self, place: Place, targets: TableTargets) -> Result<u32, CompileError>
+    pub fn switch(&mut self, place: Site, targets: TableTargets) -> Result<u32, CompileError>
         requires room { self.old.level.floor + 1 ≤ self.old.operands }
         requires there { (l : ℕ) → Contains (targets_of targets) l
             → slice_get self.old.labels l ≡ Some (spot self.old.operands self.old.level) }
@@ -174,7 +175,7 @@ impl Assembler {
     ///
     /// # Errors
     /// There are too many chains or operands, or the allocator refused.
-    pub fn chain(&mut self, place: Place, chain: Chain) -> Result<(), CompileError>
+    pub fn chain(&mut self, place: Site, chain: Chain) -> Result<(), CompileError>
         requires { self.old.level.floor + consumed chain ≤ self.old.operands }
         ensures leaves { OnOk result (LeavesOperands self.old self.new (self.old.operands - consumed chain + 1)) }
         ensures placed { OnOk result (AddsPlace self.old self.new place) }

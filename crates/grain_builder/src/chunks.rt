@@ -3,14 +3,15 @@ ghost use Rattle.std.specs.Prelude.{◌≡◌, ◌≤◌, [], OnOk, false, true}
 ghost use Rattle.grain_builder.specs.Unfinished.{SameLabels, fresh};
 
 use crate::assembler::Assembler;
-use crate::frame::Frame;
+use crate::level::Level;
+use grain_base::pos::Site;
 use grain_code::Chunk;
-use rhai_lexer::{CompileError, Place, Problem, Thing};
+use rhai_errors::{CompileError, Problem, Thing};
 use std::alloc::Global;
 
 /// There are more operations than targets can name.
 fn too_long() -> CompileError {
-    CompileError::new(Place::NONE, Problem::TooMany(Thing::Operations))
+    CompileError::new(Site::NONE, Problem::TooMany(Thing::Operations))
 }
 
 impl Assembler {
@@ -35,7 +36,7 @@ impl Assembler {
             labels: Vec::new(alloc),
             cuts: Vec::new(alloc),
             operands: 0,
-            frame: Frame::outermost(alloc, 0),
+            level: Level::outermost(alloc, 0),
             pending: 0,
             is_fixed: true,
         }
@@ -54,17 +55,17 @@ impl Assembler {
         ensures further { OnOk result (1 ≤ self.new.level.home) }
         ensures places { OnOk result (self.new.places ≡ self.old.places) }
     {
-        let Ok(entry) = u32::try_from(self.frame.home()) else {
+        let Ok(entry) = u32::try_from(self.level.home()) else {
             return Err(too_long());
         };
         let Ok(end) = u32::try_from(self.ops.len()) else {
             return Err(too_long());
         };
         let next = self.ops.len();
-        let frame = Frame::outermost(self.alloc, next);
+        let level = Level::outermost(self.alloc, next);
         self.cuts.push(Chunk::new(entry, end, u16::MAX))?;
         self.operands = 0;
-        self.frame = frame;
+        self.level = level;
         self.is_fixed = true;
         Ok(())
     }

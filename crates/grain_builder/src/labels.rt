@@ -3,20 +3,21 @@ ghost use Rattle.std.specs.Prelude.{◌≡◌, ◌+◌, ◌≤◌, IfOk, OnOk, S
 ghost use Rattle.grain_builder.specs.Unfinished.{StaysIn, SameLabels, spot};
 
 use crate::assembler::{Assembler, Label};
-use crate::frame::Frame;
+use crate::level::Level;
 use crate::writing::{MAX_OPERANDS, too_many};
-use rhai_lexer::{CompileError, Place, Problem, Thing};
+use grain_base::pos::Site;
+use rhai_errors::{CompileError, Problem, Thing};
 
-/// The place of a label that isn't bound.
+/// What a label has as its operation that isn't bound yet.
 const NOWHERE: u32 = u32::MAX;
 
 impl Assembler {
-    /// A new label, at which this many operands are found in this frame.
+    /// A new label, at which this many operands are found at this level.
     ///
     /// # Errors
     /// As [`Assembler::label`].
-    pub fn label_in(&mut self, operands: usize, frame: Frame) -> Result<u32, CompileError>
-        ensures here { IfOk result (λ l. slice_get self.new.labels l ≡ Some (spot operands frame)) }
+    pub fn label_in(&mut self, operands: usize, level: Level) -> Result<u32, CompileError>
+        ensures here { IfOk result (λ l. slice_get self.new.labels l ≡ Some (spot operands level)) }
         ensures outer { IfOk result (λ l. slice_get self.new.outers l ≡ Some self.old.pending) }
         ensures last { IfOk result (λ l. l ≡ length self.old.labels) }
         ensures more { OnOk result (length self.new.labels ≡ length self.old.labels + 1) }
@@ -28,14 +29,14 @@ impl Assembler {
         ensures places { OnOk result (self.new.places ≡ self.old.places) }
     {
         let Ok(label) = u32::try_from(self.labels.len()) else {
-            return Err(CompileError::new(Place::NONE, Problem::TooMany(Thing::Jumps)));
+            return Err(CompileError::new(Site::NONE, Problem::TooMany(Thing::Jumps)));
         };
         let outer = self.pending;
         self.labels.push(Label {
             at: NOWHERE,
             outer,
             operands,
-            frame,
+            level,
         })?;
         self.pending = label as usize + 1;
         Ok(label)
@@ -57,8 +58,8 @@ impl Assembler {
         ensures level { OnOk result (self.new.level ≡ self.old.level) }
         ensures places { OnOk result (self.new.places ≡ self.old.places) }
     {
-        let frame = self.frame.copied()?;
-        self.label_in(operands, frame)
+        let level = self.level.clone()?;
+        self.label_in(operands, level)
     }
 
     /// Binds the label that was made last of those that aren't bound to the next operation.
@@ -77,7 +78,7 @@ impl Assembler {
     {
         let at = match u32::try_from(self.ops.len()) {
             Ok(at) if at < NOWHERE => at,
-            _ => return Err(CompileError::new(Place::NONE, Problem::TooMany(Thing::Operations))),
+            _ => return Err(CompileError::new(Site::NONE, Problem::TooMany(Thing::Operations))),
         };
         let index = label as usize;
         let outer = self.labels[index].outer;
@@ -87,29 +88,24 @@ impl Assembler {
         Ok(())
     }
 
-    /// After an operation that doesn't fall through, the next one finds this many operands, in a frame of the same chunk.
+    /// After an operation that doesn't fall through, the next one finds this many operands, at a level of the same chunk.
     ///
     /// # Errors
     /// There are more operands than a chunk can declare.
-    pub fn resume(
-        &mut self,
-        place: Place,
-        operands: usize,
-        frame: Frame,
-    ) -> Result<(), CompileError>
+    pub fn resume(&mut self, place: Site, operands: usize, level: Level) -> Result<(), CompileError>
         requires loose { self.old.fixed ≡ false }
-        requires home { frame.home ≡ self.old.level.home }
+        requires home { level.home ≡ self.old.level.home }
         ensures operands { OnOk result (self.new.operands ≡ operands) }
-        ensures level { OnOk result (self.new.level ≡ frame) }
+        ensures level { OnOk result (self.new.level ≡ level) }
         ensures labels { OnOk result (SameLabels self.old self.new) }
         ensures places { OnOk result (self.new.places ≡ self.old.places) }
     {
         if operands > MAX_OPERANDS {
             return Err(too_many(place));
         }
-        let _based = &frame.floor;
+        let _based = &level.floor;
         self.operands = operands;
-        self.frame = frame;
+        self.level = level;
         Ok(())
     }
 }

@@ -4,9 +4,10 @@ ghost use Rattle.grain_builder.specs.Sound.{IsBased};
 ghost use Rattle.grain_builder.specs.Unfinished.{IsSameButFloor, LeavesOperands, SameLabels, guarded, level_without_handlers, AddsPlace};
 
 use crate::assembler::Assembler;
-use crate::frame::Frame;
+use crate::level::Level;
+use grain_base::pos::Site;
 use grain_code::Op;
-use rhai_lexer::{CompileError, Place};
+use rhai_errors::CompileError;
 use std::alloc::AllocError;
 
 impl Assembler {
@@ -14,7 +15,7 @@ impl Assembler {
     pub fn handlers(&self) -> usize
         ensures { result ≡ length self.now.level.bases }
     {
-        self.frame.handlers()
+        self.level.handlers()
     }
 
     /// All operands that there are have to stay from here on.
@@ -29,36 +30,36 @@ impl Assembler {
         ensures labels { OnOk result (SameLabels self.old self.new) }
         ensures places { OnOk result (self.new.places ≡ self.old.places) }
     {
-        let frame = self.frame.guarded(self.operands)?;
-        self.release(frame);
+        let level = self.level.guarded(self.operands)?;
+        self.release(level);
         Ok(())
     }
 
-    /// What has to stay from here on is what this frame says, which has the same iterators and handlers.
-    pub fn release(&mut self, frame: Frame)
-        requires { IsSameButFloor frame self.old.level }
+    /// What has to stay from here on is what this level says, which has the same iterators and handlers.
+    pub fn release(&mut self, level: Level)
+        requires { IsSameButFloor level self.old.level }
         ensures operands { self.new.operands ≡ self.old.operands }
-        ensures level { self.new.level ≡ frame }
+        ensures level { self.new.level ≡ level }
         ensures labels { SameLabels self.old self.new }
         ensures places { self.new.places ≡ self.old.places }
     {
-        let _based = &frame.floor;
-        self.frame = frame;
+        let _based = &level.floor;
+        self.level = level;
     }
 
     /// Disarms this many handlers, the last first. Of the operands no more has to stay then than what the next handler stands on.
     ///
     /// # Errors
     /// The allocator refused.
-    pub fn drop_handlers(&mut self, place: Place, count: usize) -> Result<(), CompileError>
+    pub fn drop_handlers(&mut self, place: Site, count: usize) -> Result<(), CompileError>
         requires { count ≤ length self.old.level.bases }
         ensures operands { OnOk result (self.new.operands ≡ self.old.operands) }
         ensures level { OnOk result (self.new.level ≡ level_without_handlers count self.old.level) }
         ensures labels { OnOk result (SameLabels self.old self.new) }
         ensures placed { OnOk result (AddsPlace self.old self.new place) }
     {
-        let frame = self.frame.without_handlers(self.alloc, 0)?;
-        self.release(frame);
+        let level = self.level.without_handlers(self.alloc, 0)?;
+        self.release(level);
         'handlers: for _turn in 0..count {
             self.drop_handler(place)?;
         }
@@ -66,22 +67,22 @@ impl Assembler {
     }
 
     /// Disarms the last handler.
-    fn drop_handler(&mut self, place: Place) -> Result<(), CompileError>
+    fn drop_handler(&mut self, place: Site) -> Result<(), CompileError>
         requires { 1 ≤ length self.old.level.bases }
         ensures operands { OnOk result (self.new.operands ≡ self.old.operands) }
         ensures level { OnOk result (self.new.level ≡ level_without_handlers 1 self.old.level) }
         ensures labels { OnOk result (SameLabels self.old self.new) }
         ensures placed { OnOk result (AddsPlace self.old self.new place) }
     {
-        let frame = self.frame.without_handlers(self.alloc, 1)?;
-        self.disarm(place, frame)
+        let level = self.level.without_handlers(self.alloc, 1)?;
+        self.disarm(place, level)
     }
 
     /// Drops this many operands.
     ///
     /// # Errors
     /// The allocator refused.
-    pub fn drop_operands(&mut self, place: Place, count: usize) -> Result<(), CompileError>
+    pub fn drop_operands(&mut self, place: Site, count: usize) -> Result<(), CompileError>
         requires { self.old.level.floor + count ≤ self.old.operands }
         ensures leaves { OnOk result (LeavesOperands self.old self.new (self.old.operands - count)) }
         ensures placed { OnOk result (AddsPlace self.old self.new place) }
@@ -96,7 +97,7 @@ impl Assembler {
     ///
     /// # Errors
     /// The allocator refused.
-    pub fn drop_below(&mut self, place: Place, count: usize) -> Result<(), CompileError>
+    pub fn drop_below(&mut self, place: Site, count: usize) -> Result<(), CompileError>
         requires { self.old.level.floor + count + 1 ≤ self.old.operands }
         ensures leaves { OnOk result (LeavesOperands self.old self.new (self.old.operands - count)) }
         ensures placed { OnOk result (AddsPlace self.old self.new place) }

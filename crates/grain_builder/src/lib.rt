@@ -5,12 +5,12 @@
 mod assembler;
 mod blocks;
 mod chunks;
-mod frame;
 mod labels;
 mod leaving;
+mod level;
 mod resolving;
 mod writing;
 
 pub use assembler::{Assembler, TableTargets};
-pub use frame::Frame;
+pub use level::Level;
 pub use resolving::Assembled;

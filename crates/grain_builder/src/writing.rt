@@ -6,14 +6,15 @@ ghost use Rattle.grain_builder.specs.Fitting.{HasEffect};
 ghost use Rattle.grain_builder.specs.Unfinished.{LeavesOperands, spot, AddsPlace};
 
 use crate::assembler::{Assembler, PlacedOp};
+use grain_base::pos::Site;
 use grain_code::Op;
-use rhai_lexer::{CompileError, Place, Problem, Thing};
+use rhai_errors::{CompileError, Problem, Thing};
 
 /// A chunk declares at most this many operands.
 pub(crate) const MAX_OPERANDS: usize = 65535;
 
 /// There are more operands than a chunk can declare.
-pub(crate) fn too_many(place: Place) -> CompileError {
+pub(crate) fn too_many(place: Site) -> CompileError {
     CompileError::new(place, Problem::TooMany(Thing::Items))
 }
 
@@ -24,7 +25,7 @@ impl Assembler {
     /// There are more operands than a chunk can declare, or the allocator refused.
     pub fn put(
         &mut self,
-        place: Place,
+        place: Site,
         op: Op,
         takes: usize,
         gives: usize,
@@ -51,7 +52,7 @@ impl Assembler {
     /// As [`Assembler::put`].
     pub fn stop(
         &mut self,
-        place: Place,
+        place: Site,
         op: Op,
         takes: usize,
         left: usize,
@@ -76,7 +77,7 @@ impl Assembler {
     ///
     /// # Errors
     /// As [`Assembler::put`].
-    pub fn jump(&mut self, place: Place, label: u32, left: usize) -> Result<(), CompileError>
+    pub fn jump(&mut self, place: Site, label: u32, left: usize) -> Result<(), CompileError>
         requires there { slice_get self.old.labels label ≡ Some (spot self.old.operands self.old.level) }
         requires room { self.old.level.floor ≤ self.old.operands }
         ensures leaves { OnOk result (LeavesOperands self.old self.new left) }
@@ -99,7 +100,7 @@ impl Assembler {
     /// As [`Assembler::put`].
     pub fn branch(
         &mut self,
-        place: Place,
+        place: Site,
         op: Op,
         label: u32,
         takes: usize,

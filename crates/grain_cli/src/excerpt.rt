@@ -1,7 +1,8 @@
 //! Lines of a text that is refused, as messages show them.
 
+use grain::pos::Site;
 use grain_listing::push_shown;
-use rhai_lexer::{CompileError, Place, Problem};
+use rhai_errors::{CompileError, Problem};
 use std::alloc::{AllocError, Global};
 
 /// How many bytes of a line are shown before a column, and how many after it.
@@ -103,7 +104,7 @@ fn byte_of(line: &str, column: u32) -> usize {
 }
 
 /// Appends a line, and below it a caret at the index.
-fn push_marked(source: &str, place: Place, text: &mut String) -> Result<(), AllocError> {
+fn push_marked(source: &str, place: Site, text: &mut String) -> Result<(), AllocError> {
     let Some(line) = line_of(source, place.line) else {
         return Ok(());
     };
@@ -116,7 +117,7 @@ fn push_marked(source: &str, place: Place, text: &mut String) -> Result<(), Allo
 }
 
 /// Another position that explains the problem, and a sentence about it.
-fn note_of(problem: Problem) -> Option<(Place, &'static str)> {
+fn note_of(problem: Problem) -> Option<(Site, &'static str)> {
     match problem {
         Problem::Unclosed(_, place) if place.is_some() => {
             Some((place, "the bracket is opened here"))
@@ -132,7 +133,7 @@ fn note_of(problem: Problem) -> Option<(Place, &'static str)> {
 fn push_message(
     file: &str,
     source: &str,
-    place: Place,
+    place: Site,
     message: &str,
     text: &mut String,
 ) -> Result<(), AllocError> {

@@ -1,7 +1,7 @@
 //! Why a command ends without its result.
 
 use grain_listing::push_shown;
-use rhai_lexer::CompileError;
+use rhai_errors::CompileError;
 use std::alloc::{AllocError, Global};
 use std::{fmt, io};
 use thiserror::Error;

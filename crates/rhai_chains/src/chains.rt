@@ -49,7 +49,8 @@ struct Part {
 /// ends the chain early. It recurses by the number of steps.
 ///
 /// # Errors
-/// Why a step or the goal fails. The error of a step has its position. A part that was taken out goes back also then.
+/// Why a step or the goal fails. The error of a step has its position. A part that was taken out goes back also then, unless
+/// memory for that runs out.
 pub fn walk(
     context: &Context<'_>,
     value: &mut Value,

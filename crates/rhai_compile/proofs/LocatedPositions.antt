@@ -21,11 +21,11 @@ use Rattle.rhai_compile.proofs.PlacedPositions.{entry_passes, position_in}
 use Rattle.rhai_emit.proofs.OneOf.{one_of}
 use Rattle.rhai_emit.proofs.PlaceTests.{and_right}
 use Rattle.rhai_emit.specs.Places.{IsOneOf, Places, pass}
-use Rattle.rhai_lexer.specs.Places.{IsInLines, no_place}
-use Rattle.rhai_lexer.specs.declared.error.Place.{Place}
+use Rattle.rhai_errors.specs.Places.{IsInLines, no_place}
+use Rattle.grain_base.specs.declared.pos.Site.{Site}
 
 -- a place that doesn't fit isn't found
-lost_for : (lengths : List ℕ) (place : Place) (result : Position) → IfSome (place_of result) (λ p. place ≡ record { line = p.0; column = p.1 }) → IsListedPosition lengths result → (FitsPosition lengths place → ⊥) → place_of result ≡ None
+lost_for : (lengths : List ℕ) (place : Site) (result : Position) → IfSome (place_of result) (λ p. place ≡ record { line = p.0; column = p.1 }) → IsListedPosition lengths result → (FitsPosition lengths place → ⊥) → place_of result ≡ None
 lost_for lengths place result own listed unfit = either (is_no_place result) refl where
   found : Bool → Option (ℕ × ℕ)
   found b = cond b None (Some (result.line, result.column))
@@ -36,23 +36,23 @@ lost_for lengths place result own listed unfit = either (is_no_place result) ref
       let there : place_of result ≡ Some (result.line, result.column) = ap (λ (b : Bool). cond b None (Some (result.line, result.column))) e in
       let same : place ≡ record { line = result.line; column = result.column } = subst (λ (f : Option (ℕ × ℕ)). IfSome f (λ p. place ≡ record { line = p.0; column = p.1 })) there own in
       let inside : IsInLines lengths (record { line = result.line; column = result.column }) = subst (λ (f : Option (ℕ × ℕ)). IfSome f (λ p. IsInLines lengths (record { line = p.0; column = p.1 }))) there listed in
-      let line : place.line ≡ result.line = ap (λ (p : Place). p.line) same in
-      let column : place.column ≡ result.column = ap (λ (p : Place). p.column) same in
+      let line : place.line ≡ result.line = ap (λ (p : Site). p.line) same in
+      let column : place.column ≡ result.column = ap (λ (p : Site). p.column) same in
       let a = result.line_fits in
       let b = result.column_fits in
       unfit (record { listed = subst (IsInLines lengths) (sym same) inside; line = omega arith; column = omega arith }))
 
 -- a place that fits is found, and any other isn't
-pub exact_for : (lengths : List ℕ) (place : Place) (result : Position) → (FitsPosition lengths place → place_of result ≡ Some (place.line, place.column)) → IfSome (place_of result) (λ p. place ≡ record { line = p.0; column = p.1 }) → IsListedPosition lengths result → IsPositionFor lengths place (place_of result)
+pub exact_for : (lengths : List ℕ) (place : Site) (result : Position) → (FitsPosition lengths place → place_of result ≡ Some (place.line, place.column)) → IfSome (place_of result) (λ p. place ≡ record { line = p.0; column = p.1 }) → IsListedPosition lengths result → IsPositionFor lengths place (place_of result)
 exact_for lengths place result kept own listed = record {
   kept = kept;
   lost = lost_for lengths place result own listed;
 }
 
 -- the place of an index, as a position, is kept
-pub kept_here : (lengths : List ℕ) (places : List Place) (n : ℕ) (default : Place) (position : Position) → n < length places → IsListedPosition lengths position → IfSome (place_of position) (λ p. get_or places n default ≡ record { line = p.0; column = p.1 }) → IsKeptPosition lengths places position
+pub kept_here : (lengths : List ℕ) (places : List Site) (n : ℕ) (default : Site) (position : Position) → n < length places → IsListedPosition lengths position → IfSome (place_of position) (λ p. get_or places n default ≡ record { line = p.0; column = p.1 }) → IsKeptPosition lengths places position
 kept_here lengths places n default position within listed own =
-    let place : Place = get_or places n default in
+    let place : Site = get_or places n default in
     let e : slice_get places n ≡ Some place = slice_get-get_or places n default within in
     record {
       listed = listed;
@@ -73,12 +73,12 @@ dense_at list at = either (list_all is_none list) refl where
   either false e = unwrap_or-slice_get list at None
 
 -- each place so far is found at its offset
-abbrev pub AreFoundUpTo : List ℕ → List Place → List ℕ → ℕ → List Position → Type 0
-AreFoundUpTo lengths places offsets n xs = (i : ℕ) (place : Place) → i < n → slice_get places i ≡ Some place → IsPositionFor lengths place (get_or (map place_of xs) (slice_index offsets i) None)
+abbrev pub AreFoundUpTo : List ℕ → List Site → List ℕ → ℕ → List Position → Type 0
+AreFoundUpTo lengths places offsets n xs = (i : ℕ) (place : Site) → i < n → slice_get places i ≡ Some place → IsPositionFor lengths place (get_or (map place_of xs) (slice_index offsets i) None)
 
-module _ (lengths : List ℕ) (places : List Place) (offsets : List ℕ) (len : ℕ) (apart_all : AreApart (length places) len offsets) where
+module _ (lengths : List ℕ) (places : List Site) (offsets : List ℕ) (len : ℕ) (apart_all : AreApart (length places) len offsets) where
   -- one more place, written at its offset
-  pub found_more : (xs : List Position) (n : ℕ) (p : Position) → n < length offsets → slice_index offsets n < length xs → ((place : Place) → slice_get places n ≡ Some place → IsPositionFor lengths place (place_of p)) → AreFoundUpTo lengths places offsets n xs
+  pub found_more : (xs : List Position) (n : ℕ) (p : Position) → n < length offsets → slice_index offsets n < length xs → ((place : Site) → slice_get places n ≡ Some place → IsPositionFor lengths place (place_of p)) → AreFoundUpTo lengths places offsets n xs
       → AreFoundUpTo lengths places offsets (n + 1) (set xs (slice_index offsets n) p)
   found_more xs n p l inside own before i place below e =
       let there : ℕ = slice_index offsets n in
@@ -113,7 +113,7 @@ offsets_apart ops code offsets made =
     }
 
 -- a program of assembled operations whose places are found at their offsets
-pub located_in : (lengths : List ℕ) (places : List Place) (ops : List Op) (p : Program) (offsets : List ℕ) → IsAssembly ops p.code offsets → length places ≡ length ops → ArePlacedAt lengths places (offsets_from 0 ops) p.positions → IsLocated lengths places p
+pub located_in : (lengths : List ℕ) (places : List Site) (ops : List Op) (p : Program) (offsets : List ℕ) → IsAssembly ops p.code offsets → length places ≡ length ops → ArePlacedAt lengths places (offsets_from 0 ops) p.positions → IsLocated lengths places p
 located_in lengths places ops p offsets made many placed =
     let s = split_there ops p.code offsets made in
     let a : length offsets ≡ length s.0 + 1 = ap (λ (xs : List ℕ). length xs) s.2 ∙ length-append s.0 (length p.code ∷ []) in
@@ -130,21 +130,21 @@ located_in lengths places ops p offsets made many placed =
     }
 
 -- the same of what is built
-pub if_located : {X E : Type 0} (lengths : List ℕ) (places : List Place) (ops : List Op) (r : Result X E) (at : X → Program) (found : Option (List Position)) → IfOk r (λ x. (offsets : List ℕ) × IsAssembly ops (at x).code offsets) → IfOk r (λ x. (at x).positions ≡ found) → length places ≡ length ops → ArePlacedAt lengths places (offsets_from 0 ops) found
+pub if_located : {X E : Type 0} (lengths : List ℕ) (places : List Site) (ops : List Op) (r : Result X E) (at : X → Program) (found : Option (List Position)) → IfOk r (λ x. (offsets : List ℕ) × IsAssembly ops (at x).code offsets) → IfOk r (λ x. (at x).positions ≡ found) → length places ≡ length ops → ArePlacedAt lengths places (offsets_from 0 ops) found
     → IfOk r (λ x. IsLocated lengths places (at x))
 if_located lengths places ops (Ok x) at found made e many placed =
     located_in lengths places ops (at x) made.0 made.1 many (subst (ArePlacedAt lengths places (offsets_from 0 ops)) (sym e) placed)
 if_located lengths places ops (Err error) at found made e many placed = tt
 
 -- where what all of these pass all of the list do, each instruction is for one of these
-pub each_has_place : (lengths : List ℕ) (these : Places) (places : List Place) (p : Program) → ((test : Place → Bool) → pass test these ≡ true → list_all test places ≡ true) → IsLocated lengths places p → EachHasPlace lengths these p
+pub each_has_place : (lengths : List ℕ) (these : Places) (places : List Site) (p : Program) → ((test : Site → Bool) → pass test these ≡ true → list_all test places ≡ true) → IsLocated lengths places p → EachHasPlace lengths these p
 each_has_place lengths these places p are located at start =
     let one : start.starts ≡ located.starts = one_split p.code start.starts located.starts start.split located.split in
     let k = contains_place located.starts at (subst (λ (xs : List ℕ). Contains xs at) one start.here) in
     let count = located.count in
     let there : k.0 < length located.starts = slice_get_within located.starts k.0 at k.1 in
     let within : k.0 < length places = omega arith in
-    let place : Place = get_or places k.0 no_place in
+    let place : Site = get_or places k.0 no_place in
     let e : slice_get places k.0 ≡ Some place = slice_get-get_or places k.0 no_place within in
     let among : IsOneOf these place = one_of these place (λ test all. entry_passes test places k.0 place within (sym (get_or_from_slice_get places k.0 place place e)) (are test all)) in
     let same : slice_index located.starts k.0 ≡ at = get_or_from_slice_get located.starts k.0 at 0 k.1 in

@@ -21,12 +21,12 @@ use Rattle.grain.proofs.AssembledParts.{All-before_map}
 use Rattle.grain.specs.Program.{Program}
 use Rattle.grain_builder.specs.Finished.{AreTypedCuts}
 use Rattle.grain_builder.specs.Fitting.{HasChains}
-use Rattle.rhai_lexer.specs.Places.{AreLengths, IsInLines, LiesIn}
+use Rattle.rhai_errors.specs.Places.{AreLengths, IsInLines, LiesIn}
 use Rattle.rhai_compile.specs.Positions.{ArePositions, IsListedPosition, IsPositionAmong, IsPositionIn, IsPositionOf}
 use Rattle.rhai_emit.proofs.OneOf.{one_of}
 use Rattle.rhai_emit.proofs.PlaceTests.{and_left, and_right}
 use Rattle.rhai_emit.specs.Places.{IsOneOf, Places, pass}
-use Rattle.rhai_lexer.specs.declared.error.Place.{Place}
+use Rattle.grain_base.specs.declared.pos.Site.{Site}
 
 pub all_flat_map : {X A : Type 0} (P : A → Type 0) (f : X → List A) (xs : List X) → All (λ x. All P (f x)) xs → All P (flat_map f xs)
 all_flat_map P f [] h = All-nil P
@@ -110,30 +110,30 @@ listed_dense lengths found xs b e all =
     listed_some (IsListedPosition lengths) Q found (map place_of xs) b e (λ p q. q) (All-map Q place_of xs all)
 
 -- the same of positions that are of these places
-pub placed_dense : (places : List Place) (found : Option (List Position)) (xs : List Position) (b : Bool) → option_map (λ ps. map place_of ps) found ≡ cond b None (Some (map place_of xs)) → All (IsPositionIn places) xs → IfSome found (All (IsPositionIn places))
+pub placed_dense : (places : List Site) (found : Option (List Position)) (xs : List Position) (b : Bool) → option_map (λ ps. map place_of ps) found ≡ cond b None (Some (map place_of xs)) → All (IsPositionIn places) xs → IfSome found (All (IsPositionIn places))
 placed_dense places found xs b e all =
-    let Q : Option (ℕ × ℕ) → Type 0 = λ q. IfSome q (λ p. (test : Place → Bool) → list_all test places ≡ true → test (record { line = p.0; column = p.1 }) ≡ true) in
+    let Q : Option (ℕ × ℕ) → Type 0 = λ q. IfSome q (λ p. (test : Site → Bool) → list_all test places ≡ true → test (record { line = p.0; column = p.1 }) ≡ true) in
     listed_some (IsPositionIn places) Q found (map place_of xs) b e (λ p q. q) (All-map Q place_of xs all)
 
 -- an entry of a list that passes passes
-pub entry_passes : (test : Place → Bool) (places : List Place) (i : ℕ) (place : Place) → i < length places → place ≡ get_or places i place → list_all test places ≡ true → test place ≡ true
+pub entry_passes : (test : Site → Bool) (places : List Site) (i : ℕ) (place : Site) → i < length places → place ≡ get_or places i place → list_all test places ≡ true → test place ≡ true
 entry_passes test [] i place l e h = absurd (omega arith)
 entry_passes test (p ∷ ps) zero place l e h = ap test e ∙ and_left (test p) (list_all test ps) h
 entry_passes test (p ∷ ps) (suc i) place l e h = entry_passes test ps i place (omega arith) e (and_right (test p) (list_all test ps) h)
 
 -- a position of one of these places
-pub position_in : (places : List Place) (place : Place) (i : ℕ) (position : Position) → i < length places → place ≡ get_or places i place → IfSome (place_of position) (λ p. place ≡ record { line = p.0; column = p.1 }) → IsPositionIn places position
+pub position_in : (places : List Site) (place : Site) (i : ℕ) (position : Position) → i < length places → place ≡ get_or places i place → IfSome (place_of position) (λ p. place ≡ record { line = p.0; column = p.1 }) → IsPositionIn places position
 position_in places place i position l e own = lies (place_of position) own where
-  lies : (found : Option (ℕ × ℕ)) → IfSome found (λ p. place ≡ record { line = p.0; column = p.1 }) → IfSome found (λ p. (test : Place → Bool) → list_all test places ≡ true → test (record { line = p.0; column = p.1 }) ≡ true)
+  lies : (found : Option (ℕ × ℕ)) → IfSome found (λ p. place ≡ record { line = p.0; column = p.1 }) → IfSome found (λ p. (test : Site → Bool) → list_all test places ≡ true → test (record { line = p.0; column = p.1 }) ≡ true)
   lies None h = tt
   lies (Some p) h = λ test all. ap test (sym h) ∙ entry_passes test places i place l e all
 
 -- where what all of these pass all in the list do, positions of the list's are among these
-pub positions_among : (these : Places) (places : List Place) → ((test : Place → Bool) → pass test these ≡ true → list_all test places ≡ true) → (found : Option (List Position)) → IfSome found (All (IsPositionIn places)) → IfSome found (All (IsPositionAmong these))
+pub positions_among : (these : Places) (places : List Site) → ((test : Site → Bool) → pass test these ≡ true → list_all test places ≡ true) → (found : Option (List Position)) → IfSome found (All (IsPositionIn places)) → IfSome found (All (IsPositionAmong these))
 positions_among these places are None h = tt
 positions_among these places are (Some found) h = All-weaker (IsPositionIn places) (IsPositionAmong these) among found h where
   among : (position : Position) → IsPositionIn places position → IsPositionAmong these position
   among position is = lies (place_of position) is where
-    lies : (found : Option (ℕ × ℕ)) → IfSome found (λ p. (test : Place → Bool) → list_all test places ≡ true → test (record { line = p.0; column = p.1 }) ≡ true) → IfSome found (λ p. IsOneOf these (record { line = p.0; column = p.1 }))
+    lies : (found : Option (ℕ × ℕ)) → IfSome found (λ p. (test : Site → Bool) → list_all test places ≡ true → test (record { line = p.0; column = p.1 }) ≡ true) → IfSome found (λ p. IsOneOf these (record { line = p.0; column = p.1 }))
     lies None h = tt
     lies (Some p) h = one_of these (record { line = p.0; column = p.1 }) (λ test all. h test (are test all))

@@ -5,7 +5,7 @@ use Rattle.rhai_emit.specs.Loops.{count}
 use Rattle.rhai_emit.specs.Places.{expr_places}
 use Rattle.rhai_emit.specs.Rules.{AddsPlaces, IsWritten, Stands}
 use Rattle.rhai_emit.specs.declared.emitter.Emitter.{Emitter}
-use Rattle.rhai_lexer.specs.declared.error.CompileError.{CompileError}
+use Rattle.rhai_errors.specs.declared.error.CompileError.{CompileError}
 use Rattle.rhai_syntax.specs.declared.ast.Expr.{Expr}
 
 -- At a depth it may be called wherever code stands. It writes code that leaves the value if it is wanted, and adds the places of the

@@ -8,8 +8,10 @@ ghost use Rattle.rhai_emit.specs.Places.{both, pass, here, list_places, expr_pla
 
 use crate::coder::Coder;
 use grain::{Chain, Flags, Op, Root, Step, StepFlags, Tail};
+use grain_base::pos::Site;
 use rhai_emit::{Emitter, argc_of, before_optional, len_of, position};
-use rhai_lexer::{CompileError, Operator, Place, Problem};
+use rhai_errors::{CompileError, Problem};
+use rhai_lexer::Operator;
 use rhai_syntax::{Access, Expr, Form, Part};
 
 impl<F: Fn(&mut Emitter, &Expr, usize, bool) -> Result<(), CompileError>> Coder<F> {
@@ -19,7 +21,7 @@ impl<F: Fn(&mut Emitter, &Expr, usize, bool) -> Result<(), CompileError>> Coder<
     pub(crate) fn access(
         &self,
         emitter: &mut Emitter,
-        place: Place,
+        place: Site,
         root: &Expr,
         steps: &[Access],
     ) -> Result<(), CompileError>
@@ -42,7 +44,7 @@ impl<F: Fn(&mut Emitter, &Expr, usize, bool) -> Result<(), CompileError>> Coder<
     fn turn(
         &self,
         emitter: &mut Emitter,
-        place: Place,
+        place: Site,
         root: &Expr,
         steps: &[Access],
         at: (usize, usize),
@@ -79,10 +81,10 @@ impl<F: Fn(&mut Emitter, &Expr, usize, bool) -> Result<(), CompileError>> Coder<
     fn method_of(
         &self,
         emitter: &mut Emitter,
-        place: Place,
+        place: Site,
         root: &Expr,
         before: (&[Access], bool),
-        method: (Place, u32),
+        method: (Site, u32),
         arguments: &[Expr],
     ) -> Result<(), CompileError>
         requires rules { Writes (F.pre self.now.writes) (F.post self.now.writes) self.now.depth }
@@ -121,7 +123,7 @@ impl<F: Fn(&mut Emitter, &Expr, usize, bool) -> Result<(), CompileError>> Coder<
     fn read(
         &self,
         emitter: &mut Emitter,
-        place: Place,
+        place: Site,
         root: &Expr,
         steps: &[Access],
         is_on_top: bool,
@@ -154,7 +156,7 @@ impl<F: Fn(&mut Emitter, &Expr, usize, bool) -> Result<(), CompileError>> Coder<
     pub(crate) fn assignment(
         &self,
         emitter: &mut Emitter,
-        place: Place,
+        place: Site,
         target: &Expr,
         operator: Option<Operator>,
         value: &Expr,
@@ -187,7 +189,7 @@ impl<F: Fn(&mut Emitter, &Expr, usize, bool) -> Result<(), CompileError>> Coder<
     fn assign_along(
         &self,
         emitter: &mut Emitter,
-        place: Place,
+        place: Site,
         root: &Expr,
         steps: &[Access],
         assigned: (Option<u32>, &Expr),

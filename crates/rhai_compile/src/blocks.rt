@@ -8,8 +8,9 @@ ghost use Rattle.rhai_emit.specs.Places.{both, branch_places, branches_places, f
 
 use crate::coder::Coder;
 use grain::Op;
+use grain_base::pos::Site;
 use rhai_emit::{Emitter, Local, height_with};
-use rhai_lexer::{CompileError, Place};
+use rhai_errors::CompileError;
 use rhai_syntax::{Branch, Catch, Expr, Form};
 
 impl<F: Fn(&mut Emitter, &Expr, usize, bool) -> Result<(), CompileError>> Coder<F> {
@@ -17,7 +18,7 @@ impl<F: Fn(&mut Emitter, &Expr, usize, bool) -> Result<(), CompileError>> Coder<
     pub(crate) fn statement(
         &self,
         emitter: &mut Emitter,
-        place: Place,
+        place: Site,
         form: &Form,
         is_wanted: bool,
     ) -> Result<(), CompileError>
@@ -47,7 +48,7 @@ impl<F: Fn(&mut Emitter, &Expr, usize, bool) -> Result<(), CompileError>> Coder<
     }
 
     /// What gives nothing.
-    fn done(&self, emitter: &mut Emitter, place: Place, form: &Form) -> Result<(), CompileError>
+    fn done(&self, emitter: &mut Emitter, place: Site, form: &Form) -> Result<(), CompileError>
         requires rules { Writes (F.pre self.now.writes) (F.post self.now.writes) self.now.depth }
         requires stands { Stands emitter.old }
         ensures written { OnOk result (IsWritten emitter.old emitter.new (emitter.old.code.operands)) }
@@ -77,7 +78,7 @@ impl<F: Fn(&mut Emitter, &Expr, usize, bool) -> Result<(), CompileError>> Coder<
     pub(crate) fn statements(
         &self,
         emitter: &mut Emitter,
-        place: Place,
+        place: Site,
         statements: &[Expr],
         is_wanted: bool,
     ) -> Result<(), CompileError>
@@ -100,7 +101,7 @@ impl<F: Fn(&mut Emitter, &Expr, usize, bool) -> Result<(), CompileError>> Coder<
     pub(crate) fn block(
         &self,
         emitter: &mut Emitter,
-        place: Place,
+        place: Site,
         statements: &[Expr],
         is_wanted: bool,
     ) -> Result<(), CompileError>
@@ -118,7 +119,7 @@ impl<F: Fn(&mut Emitter, &Expr, usize, bool) -> Result<(), CompileError>> Coder<
     fn choice(
         &self,
         emitter: &mut Emitter,
-        place: Place,
+        place: Site,
         branches: &[Branch],
         otherwise: &[Expr],
         is_wanted: bool,
@@ -168,7 +169,7 @@ impl<F: Fn(&mut Emitter, &Expr, usize, bool) -> Result<(), CompileError>> Coder<
     pub(crate) fn optional(
         &self,
         emitter: &mut Emitter,
-        place: Place,
+        place: Site,
         value: &Option<Box<Expr>>,
     ) -> Result<(), CompileError>
         requires rules { Writes (F.pre self.now.writes) (F.post self.now.writes) self.now.depth }
@@ -186,7 +187,7 @@ impl<F: Fn(&mut Emitter, &Expr, usize, bool) -> Result<(), CompileError>> Coder<
     fn tried(
         &self,
         emitter: &mut Emitter,
-        place: Place,
+        place: Site,
         body: &[Expr],
         catch: Catch,
         catching: &[Expr],
@@ -209,7 +210,7 @@ impl<F: Fn(&mut Emitter, &Expr, usize, bool) -> Result<(), CompileError>> Coder<
     fn guarded(
         &self,
         emitter: &mut Emitter,
-        place: Place,
+        place: Site,
         body: &[Expr],
         fault: Option<u32>,
         end: u32,
@@ -223,11 +224,11 @@ impl<F: Fn(&mut Emitter, &Expr, usize, bool) -> Result<(), CompileError>> Coder<
             (both (here place) (list_places body.now))) }
     {
         let height = emitter.code.operands();
-        let outer = emitter.code.frame()?;
-        let around = outer.copied()?;
+        let outer = emitter.code.level()?;
+        let around = outer.clone()?;
         let target = emitter.code.catch_label()?;
         emitter.arm(place, target, fault)?;
-        let inner = emitter.code.frame()?;
+        let inner = emitter.code.level()?;
         self.block(emitter, place, body, false)?;
         emitter.code.disarm(place, outer)?;
         emitter.code.jump(place, end, height)?;
@@ -243,7 +244,7 @@ impl<F: Fn(&mut Emitter, &Expr, usize, bool) -> Result<(), CompileError>> Coder<
     fn catching(
         &self,
         emitter: &mut Emitter,
-        place: Place,
+        place: Site,
         caught: (Catch, Option<u32>),
         body: &[Expr],
     ) -> Result<(), CompileError>

@@ -19,10 +19,11 @@ use grain::{
     BuildError, Caps, Chunk, Cut, Flags, FnAccess, Head, Op, Parts, Position, Positions, Program,
     Verified, VerifyError, lay,
 };
+use grain_base::pos::Site;
 use grain_builder::Assembled;
 use grain_rules::check_code;
 use rhai_emit::{Emitter, Options, Signature};
-use rhai_lexer::{CompileError, Lines, Place, Problem, Thing};
+use rhai_errors::{CompileError, Lines, Problem, Thing};
 use std::alloc::{AllocError, Global};
 
 /// Builds the program of the code that was made. Only what lies in these lines has positions.
@@ -138,8 +139,8 @@ fn laid(
             check_indices(&program)?;
             Ok((program, offsets))
         }
-        Err(BuildError::OutOfMemory) => Err(CompileError::new(Place::NONE, Problem::OutOfMemory)),
-        Err(_) => Err(CompileError::new(Place::NONE, Problem::TooMany(Thing::Operations))),
+        Err(BuildError::OutOfMemory) => Err(CompileError::new(Site::NONE, Problem::OutOfMemory)),
+        Err(_) => Err(CompileError::new(Site::NONE, Problem::TooMany(Thing::Operations))),
     }
 }
 
@@ -156,7 +157,7 @@ fn check_indices(program: &Program) -> Result<(), CompileError>
 {
     match check_code(&program.pools(), program.code()) {
         Ok(()) => Ok(()),
-        Err(_) => Err(CompileError::new(Place::NONE, Problem::TooMany(Thing::Names))),
+        Err(_) => Err(CompileError::new(Site::NONE, Problem::TooMany(Thing::Names))),
     }
 }
 
@@ -166,7 +167,7 @@ fn positioned(
     alloc: Global,
     mut program: Program,
     offsets: &[u32],
-    places: &[Place],
+    places: &[Site],
     lines: &Lines,
 ) -> Result<Program, AllocError>
     requires { AreApart (length places.now) (length program.code) offsets.now }
@@ -187,7 +188,7 @@ fn dense(
     alloc: Global,
     len: usize,
     offsets: &[u32],
-    places: &[Place],
+    places: &[Site],
     lines: &Lines,
 ) -> Result<Positions, AllocError>
     requires { AreApart (length places.now) len offsets.now }
@@ -218,9 +219,7 @@ fn verified(mut program: Program) -> Result<Verified, CompileError>
     match program.into_verified() {
         Ok(verified) => Ok(tight(verified)),
         Err(rejected) => match rejected.refusal.error {
-            VerifyError::OutOfMemory => {
-                Err(CompileError::new(Place::NONE, Problem::OutOfMemory))
-            }
+            VerifyError::OutOfMemory => { Err(CompileError::new(Site::NONE, Problem::OutOfMemory)) }
             _ => unreachable!(),
         },
     }

@@ -6,15 +6,16 @@ ghost use Rattle.rhai_emit.specs.Places.{both, here, list_places, expr_places};
 
 use crate::coder::Coder;
 use grain::Op;
+use grain_base::pos::Site;
 use rhai_emit::{CallTarget, Emitter, argc_of, callee_of};
-use rhai_lexer::{CompileError, Place, Problem, Thing};
+use rhai_errors::{CompileError, Problem, Thing};
 use rhai_syntax::Expr;
 
 impl<F: Fn(&mut Emitter, &Expr, usize, bool) -> Result<(), CompileError>> Coder<F> {
     pub(crate) fn call(
         &self,
         emitter: &mut Emitter,
-        place: Place,
+        place: Site,
         name: u32,
         arguments: &[Expr],
     ) -> Result<(), CompileError>
@@ -51,7 +52,7 @@ impl<F: Fn(&mut Emitter, &Expr, usize, bool) -> Result<(), CompileError>> Coder<
     fn is_shared(
         &self,
         emitter: &mut Emitter,
-        place: Place,
+        place: Site,
         argument: &Expr,
     ) -> Result<(), CompileError>
         requires rules { Writes (F.pre self.now.writes) (F.post self.now.writes) self.now.depth }
@@ -71,7 +72,7 @@ impl<F: Fn(&mut Emitter, &Expr, usize, bool) -> Result<(), CompileError>> Coder<
     fn function(
         &self,
         emitter: &mut Emitter,
-        place: Place,
+        place: Site,
         name: u32,
         arguments: &[Expr],
     ) -> Result<(), CompileError>
@@ -97,7 +98,7 @@ impl<F: Fn(&mut Emitter, &Expr, usize, bool) -> Result<(), CompileError>> Coder<
     pub(crate) fn method(
         &self,
         emitter: &mut Emitter,
-        place: Place,
+        place: Site,
         name: u32,
         arguments: &[Expr],
     ) -> Result<(), CompileError>

@@ -7,8 +7,10 @@ ghost use Rattle.rhai_emit.specs.Rules.{IsWritten, Stands, AddsPlaces};
 ghost use Rattle.rhai_emit.specs.Places.{both, entries_places, form_places, here, list_places, operation_places, operations_places, expr_places};
 
 use grain::Op;
+use grain_base::pos::Site;
 use rhai_emit::{Emitter, len_of};
-use rhai_lexer::{CompileError, Operator, Place, Problem};
+use rhai_errors::{CompileError, Problem};
+use rhai_lexer::Operator;
 use rhai_syntax::{Entry, Expr, Form, Literal, Operation};
 
 /// The rules, at a depth.
@@ -45,7 +47,7 @@ pub(crate) fn expr(
 }
 
 /// An error at this place, if it has none and is about the text.
-pub(crate) fn placed(error: CompileError, place: Place) -> CompileError {
+pub(crate) fn placed(error: CompileError, place: Site) -> CompileError {
     match error.problem {
         Problem::TooMany(_) if !error.place.is_some() => CompileError::new(place, error.problem),
         _ => error,
@@ -109,7 +111,7 @@ impl<F: Fn(&mut Emitter, &Expr, usize, bool) -> Result<(), CompileError>> Coder<
     }
 
     /// What gives a value.
-    fn value(&self, emitter: &mut Emitter, place: Place, form: &Form) -> Result<(), CompileError>
+    fn value(&self, emitter: &mut Emitter, place: Site, form: &Form) -> Result<(), CompileError>
         requires rules { Writes (F.pre self.now.writes) (F.post self.now.writes) self.now.depth }
         requires stands { Stands emitter.old }
         ensures written { OnOk result (IsWritten emitter.old emitter.new (emitter.old.code.operands + 1)) }
@@ -136,7 +138,7 @@ impl<F: Fn(&mut Emitter, &Expr, usize, bool) -> Result<(), CompileError>> Coder<
     fn interpolated(
         &self,
         emitter: &mut Emitter,
-        place: Place,
+        place: Site,
         pieces: &[Expr],
     ) -> Result<(), CompileError>
         requires rules { Writes (F.pre self.now.writes) (F.post self.now.writes) self.now.depth }
@@ -153,7 +155,7 @@ impl<F: Fn(&mut Emitter, &Expr, usize, bool) -> Result<(), CompileError>> Coder<
         emitter.put(place, Op::InterpolateEnd, 1, 1)
     }
 
-    fn array(&self, emitter: &mut Emitter, place: Place, items: &[Expr]) -> Result<(), CompileError>
+    fn array(&self, emitter: &mut Emitter, place: Site, items: &[Expr]) -> Result<(), CompileError>
         requires rules { Writes (F.pre self.now.writes) (F.post self.now.writes) self.now.depth }
         requires stands { Stands emitter.old }
         ensures written { OnOk result (IsWritten emitter.old emitter.new (emitter.old.code.operands + 1)) }
@@ -165,12 +167,7 @@ impl<F: Fn(&mut Emitter, &Expr, usize, bool) -> Result<(), CompileError>> Coder<
         emitter.put(place, Op::MakeArray(len), items.len(), 1)
     }
 
-    fn map(
-        &self,
-        emitter: &mut Emitter,
-        place: Place,
-        entries: &[Entry],
-    ) -> Result<(), CompileError>
+    fn map(&self, emitter: &mut Emitter, place: Site, entries: &[Entry]) -> Result<(), CompileError>
         requires rules { Writes (F.pre self.now.writes) (F.post self.now.writes) self.now.depth }
         requires stands { Stands emitter.old }
         ensures written { OnOk result (IsWritten emitter.old emitter.new (emitter.old.code.operands + 1)) }
@@ -189,7 +186,7 @@ impl<F: Fn(&mut Emitter, &Expr, usize, bool) -> Result<(), CompileError>> Coder<
     fn prefixed(
         &self,
         emitter: &mut Emitter,
-        place: Place,
+        place: Site,
         operator: Operator,
         operand: &Expr,
     ) -> Result<(), CompileError>

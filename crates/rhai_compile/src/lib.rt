@@ -18,5 +18,5 @@ mod switches;
 
 pub use programs::{compile, compile_syntax};
 pub use rhai_emit::Options;
-pub use rhai_lexer::{CompileError, Place, Problem, Thing, report};
+pub use rhai_errors::{CompileError, Problem, Thing, report};
 pub use rhai_syntax::{MAX_FLAWS, flaws};

@@ -7,8 +7,9 @@ ghost use Rattle.rhai_emit.specs.Places.{both, form_places, here, list_places, o
 
 use crate::coder::Coder;
 use grain::Op;
+use grain_base::pos::Site;
 use rhai_emit::{Emitter, Local, height_with};
-use rhai_lexer::{CompileError, Place};
+use rhai_errors::CompileError;
 use rhai_syntax::{Binding, Expr, Form};
 
 impl<F: Fn(&mut Emitter, &Expr, usize, bool) -> Result<(), CompileError>> Coder<F> {
@@ -16,7 +17,7 @@ impl<F: Fn(&mut Emitter, &Expr, usize, bool) -> Result<(), CompileError>> Coder<
     pub(crate) fn repeated(
         &self,
         emitter: &mut Emitter,
-        place: Place,
+        place: Site,
         form: &Form,
         is_wanted: bool,
     ) -> Result<(), CompileError>
@@ -46,7 +47,7 @@ impl<F: Fn(&mut Emitter, &Expr, usize, bool) -> Result<(), CompileError>> Coder<
     fn while_loop(
         &self,
         emitter: &mut Emitter,
-        place: Place,
+        place: Site,
         condition: &Expr,
         body: &[Expr],
         is_wanted: bool,
@@ -58,7 +59,7 @@ impl<F: Fn(&mut Emitter, &Expr, usize, bool) -> Result<(), CompileError>> Coder<
             (both (here place) (both (expr_places condition.now) (list_places body.now)))) }
     {
         let height = emitter.code.operands();
-        let outer = emitter.code.frame()?;
+        let outer = emitter.code.level()?;
         let end = emitter.code.label(height_with(height, is_wanted))?;
         let exit = emitter.code.label(height)?;
         let around = emitter.scope.around;
@@ -78,7 +79,7 @@ impl<F: Fn(&mut Emitter, &Expr, usize, bool) -> Result<(), CompileError>> Coder<
     fn endless(
         &self,
         emitter: &mut Emitter,
-        place: Place,
+        place: Site,
         body: &[Expr],
         is_wanted: bool,
     ) -> Result<(), CompileError>
@@ -89,7 +90,7 @@ impl<F: Fn(&mut Emitter, &Expr, usize, bool) -> Result<(), CompileError>> Coder<
             (both (here place) (list_places body.now))) }
     {
         let height = emitter.code.operands();
-        let outer = emitter.code.frame()?;
+        let outer = emitter.code.level()?;
         let end = emitter.code.label(height_with(height, is_wanted))?;
         let around = emitter.scope.around;
         let inner = emitter.begin_loop(end, is_wanted, false)?;
@@ -107,7 +108,7 @@ impl<F: Fn(&mut Emitter, &Expr, usize, bool) -> Result<(), CompileError>> Coder<
     fn do_loop(
         &self,
         emitter: &mut Emitter,
-        place: Place,
+        place: Site,
         body: &[Expr],
         repeats: (&Expr, bool),
         is_wanted: bool,
@@ -120,7 +121,7 @@ impl<F: Fn(&mut Emitter, &Expr, usize, bool) -> Result<(), CompileError>> Coder<
     {
         let (condition, goes_on) = repeats;
         let height = emitter.code.operands();
-        let outer = emitter.code.frame()?;
+        let outer = emitter.code.level()?;
         let end = emitter.code.label(height_with(height, is_wanted))?;
         let around = emitter.scope.around;
         let inner = emitter.begin_loop(end, is_wanted, false)?;
@@ -141,7 +142,7 @@ impl<F: Fn(&mut Emitter, &Expr, usize, bool) -> Result<(), CompileError>> Coder<
     fn for_loop(
         &self,
         emitter: &mut Emitter,
-        place: Place,
+        place: Site,
         names: (Binding, Option<Binding>),
         parts: (&Expr, &[Expr]),
         is_wanted: bool,
@@ -155,7 +156,7 @@ impl<F: Fn(&mut Emitter, &Expr, usize, bool) -> Result<(), CompileError>> Coder<
         let (name, counter) = names;
         let (items, body) = parts;
         let height = emitter.code.operands();
-        let outer = emitter.code.frame()?;
+        let outer = emitter.code.level()?;
         let end = emitter.code.label(height_with(height, is_wanted))?;
         let exit = emitter.code.label(height)?;
         self.expr(emitter, items, true)?;
@@ -180,7 +181,7 @@ impl<F: Fn(&mut Emitter, &Expr, usize, bool) -> Result<(), CompileError>> Coder<
     pub(crate) fn leaving(
         &self,
         emitter: &mut Emitter,
-        place: Place,
+        place: Site,
         form: &Form,
         is_wanted: bool,
     ) -> Result<(), CompileError>
@@ -191,14 +192,14 @@ impl<F: Fn(&mut Emitter, &Expr, usize, bool) -> Result<(), CompileError>> Coder<
             (both (here place) (form_places form.now))) }
     {
         let height = emitter.code.operands();
-        let outer = emitter.code.frame()?;
+        let outer = emitter.code.level()?;
         self.away(emitter, place, form)?;
         emitter
             .code
             .resume(place, height_with(height, is_wanted), outer)
     }
 
-    fn away(&self, emitter: &mut Emitter, place: Place, form: &Form) -> Result<(), CompileError>
+    fn away(&self, emitter: &mut Emitter, place: Site, form: &Form) -> Result<(), CompileError>
         requires rules { Writes (F.pre self.now.writes) (F.post self.now.writes) self.now.depth }
         requires stands { Stands emitter.old }
         ensures away { OnOk result (LeadsAway emitter.old emitter.new) }
@@ -224,7 +225,7 @@ impl<F: Fn(&mut Emitter, &Expr, usize, bool) -> Result<(), CompileError>> Coder<
     fn broken(
         &self,
         emitter: &mut Emitter,
-        place: Place,
+        place: Site,
         value: &Option<Box<Expr>>,
     ) -> Result<(), CompileError>
         requires rules { Writes (F.pre self.now.writes) (F.post self.now.writes) self.now.depth }

@@ -11,9 +11,11 @@ ghost use Rattle.rhai_compile.specs.Capabilities.{every_capability};
 use grain::{
     AssignOp, Chain, Dynamic, Parts, Positions, Strings, StringsError, Switch, SwitchRange, Token,
 };
+use grain_base::pos::Site;
 use grain_builder::TableTargets;
 use rhai_emit::{Leading, Options, PoolBuilder, Spanning, Table, token};
-use rhai_lexer::{CompileError, Names, Operator, Place, Problem, Thing};
+use rhai_errors::{CompileError, Problem, Thing};
+use rhai_lexer::{Names, Operator};
 use rhai_syntax::Literal;
 use std::alloc::{AllocError, Global};
 use std::collections::HashMap;
@@ -70,10 +72,10 @@ fn strings(alloc: Global, names: &Names) -> Result<Strings, CompileError> {
     match Strings::new(alloc, &list) {
         Ok(strings) => Ok(strings),
         Err(StringsError::TooLong) => {
-            Err(CompileError::new(Place::NONE, Problem::TooMany(Thing::Names)))
+            Err(CompileError::new(Site::NONE, Problem::TooMany(Thing::Names)))
         }
         Err(StringsError::OutOfMemory) => {
-            Err(CompileError::new(Place::NONE, Problem::OutOfMemory))
+            Err(CompileError::new(Site::NONE, Problem::OutOfMemory))
         }
     }
 }

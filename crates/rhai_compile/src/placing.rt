@@ -5,14 +5,15 @@ ghost use Rattle.std.specs.List.{All, flat_map};
 ghost use Rattle.grain_base.specs.declared.position.Position.{Position};
 ghost use Rattle.grain_pools.specs.Chain.{positions, root_positions, root_shape, shape, step_positions, step_shape};
 ghost use Rattle.rhai_compile.specs.Positions.{IsListedPosition, IsPositionFor};
-ghost use Rattle.rhai_lexer.specs.Places.{IsInLines};
+ghost use Rattle.rhai_errors.specs.Places.{IsInLines};
 
 use grain::{Chain, Position, Root, Step};
+use grain_base::pos::Site;
 use rhai_emit::position;
-use rhai_lexer::{Lines, Place};
+use rhai_errors::Lines;
 
 /// The place as a position, or none where it lies in none of the lines.
-pub(crate) fn kept_place(place: Place, lines: &Lines) -> Position
+pub(crate) fn kept_place(place: Site, lines: &Lines) -> Position
     ensures listed { IsListedPosition lines.now.lengths.items result }
     ensures own { IfSome (place_of result) (λ p. place ≡ record { line = p.0; column = p.1 }) }
     ensures exact { IsPositionFor lines.now.lengths.items place (place_of result) }
@@ -31,7 +32,7 @@ pub(crate) fn kept(position: Position, lines: &Lines) -> Position
     let (Some(line), Some(column)) = (position.line(), position.position()) else {
         return Position::NONE;
     };
-    let place = Place {
+    let place = Site {
         line: line as u32,
         column: column as u32,
     };

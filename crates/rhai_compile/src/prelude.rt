@@ -4,7 +4,7 @@
 //! They call no function by its name, since one of the script would be found first: they append by `+=`, and count by a loop. No
 //! script can declare an operator, nor what `f.call(x)` does.
 
-use rhai_lexer::CompileError;
+use rhai_errors::CompileError;
 use rhai_syntax::Syntax;
 use std::alloc::{AllocError, Global};
 

@@ -9,14 +9,15 @@ ghost use Rattle.rhai_emit.specs.Bodies.{bodies_places, body_places};
 ghost use Rattle.rhai_emit.specs.Places.{both, here, script_places, syntax_places};
 ghost use Rattle.rhai_emit.specs.Rules.{AddsPlaces};
 ghost use Rattle.std.specs.List.{All};
-ghost use Rattle.rhai_lexer.specs.Places.{HasPlaces};
+ghost use Rattle.rhai_errors.specs.Places.{HasPlaces};
 
 use crate::building::{finish, head_of};
 use crate::coder::{Coder, expr};
 use crate::prelude::{needed, with_functions};
 use grain::{Head, Op, Verified};
+use grain_base::pos::Site;
 use rhai_emit::{Body, Emitter, Options, PoolBuilder, global_constants, split_functions};
-use rhai_lexer::{CompileError, Lines, Place};
+use rhai_errors::{CompileError, Lines};
 use rhai_syntax::{Expr, MAX_DEPTH, Syntax, parse};
 use std::alloc::Global;
 
@@ -125,8 +126,8 @@ fn main_chunk(emitter: &mut Emitter, body: &[Expr]) -> Result<(), CompileError>
     ensures placed { OnOk result (AddsPlaces emitter.old emitter.new (script_places body.now)) }
 {
     let Some((last, others)) = body.split_last() else {
-        emitter.put(Place::START, Op::Unit, 0, 1)?;
-        return ended(emitter, Place::START);
+        emitter.put(Site::START, Op::Unit, 0, 1)?;
+        return ended(emitter, Site::START);
     };
     for statement in others {
         emitter.put(statement.place, Op::Checkpoint, 0, 0)?;
@@ -154,7 +155,7 @@ fn function_chunk(emitter: &mut Emitter, index: usize, body: &Body) -> Result<()
 }
 
 /// The chunk ends with its value, and the next one begins.
-fn ended(emitter: &mut Emitter, place: Place) -> Result<(), CompileError>
+fn ended(emitter: &mut Emitter, place: Site) -> Result<(), CompileError>
     requires floor { emitter.old.code.level.floor ≤ emitter.old.code.operands }
     requires closed { emitter.old.code.pending ≡ 0 }
     ensures begun { OnOk result (BeginsChunk emitter.new.code) }

@@ -9,15 +9,16 @@ ghost use Rattle.rhai_emit.specs.Places.{pass, arm_places, arms_places, both, he
 
 use crate::coder::Coder;
 use grain::Op;
+use grain_base::pos::Site;
 use rhai_emit::{Emitter, Labels, check_arms};
-use rhai_lexer::{CompileError, Place};
+use rhai_errors::CompileError;
 use rhai_syntax::{Arm, Expr};
 
 impl<F: Fn(&mut Emitter, &Expr, usize, bool) -> Result<(), CompileError>> Coder<F> {
     pub(crate) fn switch(
         &self,
         emitter: &mut Emitter,
-        place: Place,
+        place: Site,
         subject: &Expr,
         arms: &[Arm],
         is_wanted: bool,

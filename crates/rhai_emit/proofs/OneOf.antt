@@ -3,21 +3,21 @@ use Rattle.std.proofs.Common.{◌≡◌, ◌⊎◌, inl, inr, Bool, true, false,
 use Rattle.std.specs.Prelude.{◌&&◌, ◌||◌}
 use Rattle.rhai_emit.specs.Places.{IsOneOf, Places, both, here, nowhere, pass}
 use Rattle.rhai_emit.proofs.PlaceTests.{and_both, and_left, and_right}
-use Rattle.rhai_lexer.specs.declared.error.Place.{Place}
+use Rattle.grain_base.specs.declared.pos.Site.{Site}
 
-same_place : Place → Place → Bool
+same_place : Site → Site → Bool
 same_place one other = eqb one.line other.line && eqb one.column other.column
 
-is_one_of : Places → Place → Bool
+is_one_of : Places → Site → Bool
 is_one_of nowhere place = false
 is_one_of (here one) place = same_place one place
 is_one_of (both some others) place = is_one_of some place || is_one_of others place
 
-same_self : (place : Place) → same_place place place ≡ true
+same_self : (place : Site) → same_place place place ≡ true
 unfolding same_place
 same_self place = and_both (eqb place.line place.line) (eqb place.column place.column) (eq-eqb place.line place.line refl) (eq-eqb place.column place.column refl)
 
-same_is : (one other : Place) → same_place one other ≡ true → one ≡ other
+same_is : (one other : Site) → same_place one other ≡ true → one ≡ other
 unfolding same_place
 same_is one other e =
     let line : one.line ≡ other.line = eqb-true one.line other.line (and_left (eqb one.line other.line) (eqb one.column other.column) e) in
@@ -37,7 +37,7 @@ or_cases true b h = inl refl
 or_cases false b h = inr h
 
 -- each of the places is one of them
-pass_own : (all some : Places) → ((place : Place) → is_one_of some place ≡ true → is_one_of all place ≡ true) → pass (is_one_of all) some ≡ true
+pass_own : (all some : Places) → ((place : Site) → is_one_of some place ≡ true → is_one_of all place ≡ true) → pass (is_one_of all) some ≡ true
 unfolding is_one_of
 pass_own all nowhere within = refl
 pass_own all (here one) within = within one (same_self one)
@@ -46,7 +46,7 @@ pass_own all (both some others) within =
     (pass_own all some (λ place h. within place (or_left (is_one_of some place) (is_one_of others place) h)))
     (pass_own all others (λ place h. within place (or_right (is_one_of some place) (is_one_of others place) h)))
 
-found : (places : Places) (place : Place) → is_one_of places place ≡ true → IsOneOf places place
+found : (places : Places) (place : Site) → is_one_of places place ≡ true → IsOneOf places place
 unfolding is_one_of
 found nowhere place h = absurd (let f : false ≡ true = h in cc)
 found (here one) place h = same_is one place h
@@ -55,5 +55,5 @@ found (both some others) place h = elim (or_cases (is_one_of some place) (is_one
   | inr k ↦ inr (found others place k)
 ]
 
-pub one_of : (places : Places) (place : Place) → ((test : Place → Bool) → pass test places ≡ true → test place ≡ true) → IsOneOf places place
+pub one_of : (places : Places) (place : Site) → ((test : Site → Bool) → pass test places ≡ true → test place ≡ true) → IsOneOf places place
 one_of places place passes = found places place (passes (is_one_of places) (pass_own places places (λ p h. h)))

@@ -14,16 +14,16 @@ use Rattle.rhai_syntax.specs.declared.ast.Form.TheOpen.{Access-F, Arm-F, Branch-
 use Rattle.rhai_syntax.specs.declared.ast.Function.{Function}
 use Rattle.rhai_syntax.specs.declared.ast.Operation.{Operation, fold-Operation}
 use Rattle.rhai_syntax.specs.declared.ast.Syntax.{Syntax}
-use Rattle.rhai_lexer.specs.declared.error.Place.{Place}
+use Rattle.grain_base.specs.declared.pos.Site.{Site}
 
 -- Some places. They are joined as the parts of the tree are, so that what holds of all of them computes to what holds of the parts.
 pub data Places : Type 0 where
   nowhere : Places
-  here : Place → Places
+  here : Site → Places
   both : Places → Places → Places
 
 -- whether each of the places passes the test
-abbrev pub pass : (Place → Bool) → Places → Bool
+abbrev pub pass : (Site → Bool) → Places → Bool
 pass test nowhere = true
 pass test (here place) = test place
 pass test (both some others) = pass test some && pass test others
@@ -152,7 +152,7 @@ abbrev pub functions_places : List Function → Places
 functions_places functions = all_of (map function_places functions)
 
 -- the start of the text
-abbrev pub start : Place
+abbrev pub start : Site
 start = record { line = 1; column = 1 }
 
 -- The places of the statements outside of functions, or the start of the text if there is none: its chunk gives unit.
@@ -165,7 +165,7 @@ abbrev pub syntax_places : Syntax → Places
 syntax_places syntax = both (script_places syntax.body.items) (functions_places syntax.functions.items)
 
 -- one of the places
-abbrev pub IsOneOf : Places → Place → Type 0
+abbrev pub IsOneOf : Places → Site → Type 0
 IsOneOf nowhere place = ⊥
 IsOneOf (here one) place = one ≡ place
 IsOneOf (both some others) place = IsOneOf some place ⊎ IsOneOf others place

@@ -4,7 +4,7 @@ use Rattle.std.specs.List.{list_all}
 use Rattle.grain_builder.specs.Unfinished.{StaysIn}
 use Rattle.rhai_emit.specs.Loops.{CanLeave}
 use Rattle.rhai_emit.specs.Places.{Places, pass}
-use Rattle.rhai_lexer.specs.declared.error.Place.{Place}
+use Rattle.grain_base.specs.declared.pos.Site.{Site}
 use Rattle.rhai_emit.specs.declared.emitter.Emitter.{Emitter}
 
 -- What is on the stacks stays, and the innermost loop can be left.
@@ -33,4 +33,4 @@ pub record LeadsAway (old new : Emitter) : Type 0 where
 
 -- Each operation that was added has one of these places. It is said by tests: what all old places and these pass, all new ones do.
 abbrev pub AddsPlaces : Emitter → Emitter → Places → Type 0
-AddsPlaces old new these = (test : Place → Bool) → pass test these ≡ true → list_all test old.code.places ≡ true → list_all test new.code.places ≡ true
+AddsPlaces old new these = (test : Site → Bool) → pass test these ≡ true → list_all test old.code.places ≡ true → list_all test new.code.places ≡ true

@@ -6,8 +6,9 @@ ghost use Rattle.rhai_emit.specs.Places.{here};
 use crate::emitter::Emitter;
 use crate::scope::Local;
 use crate::writing::argc_of;
+use grain_base::pos::Site;
 use grain_code::{Op, Receiver};
-use rhai_lexer::{CompileError, Place};
+use rhai_errors::CompileError;
 use rhai_syntax::{Expr, Form};
 use std::collections::HashSet;
 
@@ -94,7 +95,7 @@ impl Emitter {
     /// Calls a function on a local variable, which is the first of this many arguments.
     pub fn call_on(
         &mut self,
-        place: Place,
+        place: Site,
         name: u32,
         slot: u16,
         argc: u8,
@@ -127,7 +128,7 @@ impl Emitter {
     /// value below, unless that is a function pointer itself.
     pub fn call_pointer(
         &mut self,
-        place: Place,
+        place: Site,
         argc: u8,
         is_method: bool,
     ) -> Result<(), CompileError>
@@ -148,7 +149,7 @@ impl Emitter {
     /// that one is called, with the value below the arguments as the first of them.
     pub fn call_pointer_on(
         &mut self,
-        place: Place,
+        place: Site,
         receiver: Receiver,
         argc: u8,
     ) -> Result<(), CompileError>
@@ -166,7 +167,7 @@ impl Emitter {
     }
 
     /// Binds this many arguments to the function pointer below them.
-    pub fn curry(&mut self, place: Place, argc: u8) -> Result<(), CompileError>
+    pub fn curry(&mut self, place: Site, argc: u8) -> Result<(), CompileError>
         requires { self.old.code.level.floor + argc + 1 ≤ self.old.code.operands }
         ensures written { OnOk result (IsWritten self.old self.new (self.old.code.operands - argc)) }
         ensures placed { OnOk result (AddsPlaces self.old self.new (here place)) }
@@ -175,7 +176,7 @@ impl Emitter {
     }
 
     /// A pointer to a closure. Each variable that it captures becomes a shared value, which is bound to the pointer.
-    pub fn closure(&mut self, place: Place, index: usize) -> Result<(), CompileError>
+    pub fn closure(&mut self, place: Site, index: usize) -> Result<(), CompileError>
         requires { self.old.code.level.floor ≤ self.old.code.operands }
         ensures written { OnOk result (IsWritten self.old self.new (self.old.code.operands + 1)) }
         ensures placed { OnOk result (AddsPlaces self.old self.new (here place)) }
@@ -194,7 +195,7 @@ impl Emitter {
     }
 
     /// Shares the variables in these slots, and binds them to the pointer on top.
-    fn bind_captured(&mut self, place: Place, slots: &[u16]) -> Result<(), CompileError>
+    fn bind_captured(&mut self, place: Site, slots: &[u16]) -> Result<(), CompileError>
         requires { self.old.code.level.floor + 1 ≤ self.old.code.operands }
         ensures written { OnOk result (IsWritten self.old self.new self.old.code.operands) }
         ensures placed { OnOk result (AddsPlaces self.old self.new (here place)) }

@@ -7,9 +7,11 @@ ghost use Rattle.rhai_emit.specs.Places.{here};
 use crate::emitter::Emitter;
 use crate::positions::position;
 use crate::writing::argc_of;
+use grain_base::pos::Site;
 use grain_code::Op;
 use grain_pools::{Chain, Step, StepFlags};
-use rhai_lexer::{CompileError, Operator, Place, Problem};
+use rhai_errors::{CompileError, Problem};
+use rhai_lexer::Operator;
 use rhai_syntax::{Access, Expr, Form};
 
 impl Emitter {
@@ -30,7 +32,7 @@ impl Emitter {
     }
 
     /// Moves the value below this many operands above them.
-    pub fn raise(&mut self, place: Place, operands: u16) -> Result<(), CompileError>
+    pub fn raise(&mut self, place: Site, operands: u16) -> Result<(), CompileError>
         requires { self.old.code.level.floor + operands + 1 ≤ self.old.code.operands }
         ensures written { OnOk result (IsWritten self.old self.new self.old.code.operands) }
         ensures placed { OnOk result (AddsPlaces self.old self.new (here place)) }
@@ -44,7 +46,7 @@ impl Emitter {
     }
 
     /// A chain, which takes its operands, its root and what it assigns, and gives one.
-    pub fn chain(&mut self, place: Place, chain: Chain) -> Result<(), CompileError>
+    pub fn chain(&mut self, place: Site, chain: Chain) -> Result<(), CompileError>
         requires { self.old.code.level.floor + consumed chain ≤ self.old.code.operands }
         ensures written { OnOk result (IsWritten self.old self.new (self.old.code.operands - consumed chain + 1)) }
         ensures placed { OnOk result (AddsPlaces self.old self.new (here place)) }
@@ -55,7 +57,7 @@ impl Emitter {
     /// The step to a property, with the names of the functions that read and write it.
     pub fn property(
         &mut self,
-        place: Place,
+        place: Site,
         name: u32,
         flags: StepFlags,
     ) -> Result<Step, CompileError>
@@ -83,7 +85,7 @@ impl Emitter {
     }
 
     /// A constant isn't assigned to, nor its parts.
-    pub fn check_variable(&self, place: Place, root: &Expr) -> Result<(), CompileError> {
+    pub fn check_variable(&self, place: Site, root: &Expr) -> Result<(), CompileError> {
         match &root.form {
             Form::Name(name) => match self.find(root.place, *name)? {
                 Some(found) if found.is_const => {

@@ -8,7 +8,7 @@ use crate::pools::PoolBuilder;
 use crate::scope::{Local, Scope};
 use crate::signatures::Signatures;
 use grain_builder::Assembler;
-use rhai_lexer::CompileError;
+use rhai_errors::CompileError;
 use rhai_syntax::Literal;
 use std::alloc::Global;
 use std::collections::HashMap;

@@ -1,6 +1,6 @@
 //! Which functions a script declares, by their names.
 
-use rhai_lexer::{CompileError, Problem, Thing};
+use rhai_errors::{CompileError, Problem, Thing};
 use rhai_syntax::Function;
 use std::alloc::Global;
 use std::collections::HashSet;

@@ -12,8 +12,9 @@ ghost use Rattle.rhai_emit.specs.Places.{here};
 use crate::emitter::Emitter;
 use crate::table::{Leading, Spanning, Table};
 use crate::writing::height_with;
+use grain_base::pos::Site;
 use grain_builder::TableTargets;
-use rhai_lexer::{CompileError, Place, Problem, Thing};
+use rhai_errors::{CompileError, Problem, Thing};
 use rhai_syntax::{Arm, Case, Literal};
 use std::alloc::Global;
 use std::collections::HashSet;
@@ -110,7 +111,7 @@ impl Emitter {
     /// Leads the subject to the first arm from this one on that has it.
     pub fn dispatch(
         &mut self,
-        place: Place,
+        place: Site,
         arms: &[Arm],
         labels: &Labels,
         from: usize,

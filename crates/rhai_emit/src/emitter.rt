@@ -4,8 +4,8 @@ use crate::declared::Declared;
 use crate::options::Options;
 use crate::pools::PoolBuilder;
 use crate::scope::{Local, Scope};
+use grain_base::pos::Site;
 use grain_builder::Assembler;
-use rhai_lexer::Place;
 use rhai_syntax::{Binding, Literal};
 use std::alloc::Global;
 use std::collections::HashMap;
@@ -14,7 +14,7 @@ use std::collections::HashMap;
 #[derive(Drop)]
 pub struct Signature {
     /// Where it begins.
-    pub place: Place,
+    pub place: Site,
     /// Its name.
     pub name: u32,
     /// Its parameters.

@@ -8,8 +8,9 @@ ghost use Rattle.rhai_emit.specs.Places.{here};
 use crate::emitter::Emitter;
 use crate::scope::Local;
 use crate::writing::check_index;
+use grain_base::pos::Site;
 use grain_code::{Op, Pool};
-use rhai_lexer::{CompileError, Place};
+use rhai_errors::CompileError;
 use rhai_syntax::{Binding, Catch};
 
 /// The name of a fault that is raised again. No source text can contain it.
@@ -17,7 +18,7 @@ const FAULT: &str = "fault$";
 
 impl Emitter {
     /// Arms a handler, which catches at the label and binds the fault to this name.
-    pub fn arm(&mut self, place: Place, target: u32, name: Option<u32>) -> Result<(), CompileError>
+    pub fn arm(&mut self, place: Site, target: u32, name: Option<u32>) -> Result<(), CompileError>
         requires stands { Stands self.old }
         requires there { slice_get self.old.code.labels target
             ≡ Some (spot self.old.code.operands (level_with_handler self.old.code.operands self.old.code.level)) }
@@ -51,7 +52,7 @@ impl Emitter {
     /// The fault that was caught becomes one or two variables.
     pub fn caught(
         &mut self,
-        place: Place,
+        place: Site,
         catch: Catch,
         fault: Option<u32>,
     ) -> Result<(), CompileError>
@@ -78,12 +79,7 @@ impl Emitter {
     }
 
     /// Declares a variable with the value that the host bound to the name.
-    fn bind_fault(
-        &mut self,
-        place: Place,
-        fault: u32,
-        binding: Binding,
-    ) -> Result<u16, CompileError>
+    fn bind_fault(&mut self, place: Site, fault: u32, binding: Binding) -> Result<u16, CompileError>
         requires { self.old.code.level.floor ≤ self.old.code.operands }
         ensures written { OnOk result (IsWritten self.old self.new self.old.code.operands) }
         ensures placed { OnOk result (AddsPlaces self.old self.new (here place)) }
@@ -93,7 +89,7 @@ impl Emitter {
     }
 
     /// `throw` without a value: it raises the fault again that the innermost `catch` has, and else throws unit.
-    pub fn throw_again(&mut self, place: Place) -> Result<(), CompileError>
+    pub fn throw_again(&mut self, place: Site) -> Result<(), CompileError>
         requires { self.old.code.level.floor ≤ self.old.code.operands }
         ensures away { OnOk result (LeadsAway self.old self.new) }
         ensures placed { OnOk result (AddsPlaces self.old self.new (here place)) }
@@ -106,7 +102,7 @@ impl Emitter {
     }
 
     /// Throws the value on top.
-    pub fn throw(&mut self, place: Place) -> Result<(), CompileError>
+    pub fn throw(&mut self, place: Site) -> Result<(), CompileError>
         requires { self.old.code.level.floor + 1 ≤ self.old.code.operands }
         ensures away { OnOk result (LeadsAway self.old self.new) }
         ensures placed { OnOk result (AddsPlaces self.old self.new (here place)) }

@@ -7,8 +7,9 @@ ghost use Rattle.rhai_emit.specs.Places.{here};
 
 use crate::emitter::Emitter;
 use crate::scope::{Local, Loop};
+use grain_base::pos::Site;
 use grain_code::Op;
-use rhai_lexer::{CompileError, Place, Problem};
+use rhai_errors::{CompileError, Problem};
 use rhai_syntax::{Binding, Literal};
 
 impl Emitter {
@@ -77,7 +78,7 @@ impl Emitter {
     }
 
     /// The place to which a loop comes back: its label is bound, and the turn is counted.
-    pub fn turn(&mut self, place: Place, label: u32) -> Result<(), CompileError>
+    pub fn turn(&mut self, place: Site, label: u32) -> Result<(), CompileError>
         requires stands { Stands self.old }
         requires here { slice_get self.old.code.labels label
             ≡ Some (spot self.old.code.operands self.old.code.level) }
@@ -98,7 +99,7 @@ impl Emitter {
     /// The next item becomes the value of the variable in a slot, or the iterator ends and the loop goes to its exit.
     pub fn next_item(
         &mut self,
-        place: Place,
+        place: Site,
         exit: u32,
         slots: (u16, Option<u16>),
     ) -> Result<(), CompileError>
@@ -115,7 +116,7 @@ impl Emitter {
     }
 
     /// The loop that `break` and `continue` are about.
-    pub fn innermost(&self, place: Place) -> Result<Loop, CompileError>
+    pub fn innermost(&self, place: Site) -> Result<Loop, CompileError>
         ensures { IfOk result (λ l. self.now.scope.around ≡ Some l) }
     {
         match self.scope.around {
@@ -125,7 +126,7 @@ impl Emitter {
     }
 
     /// `continue`
-    pub fn go_on(&mut self, place: Place) -> Result<(), CompileError>
+    pub fn go_on(&mut self, place: Site) -> Result<(), CompileError>
         requires { Stands self.old }
         ensures away { OnOk result (LeadsAway self.old self.new) }
         ensures placed { OnOk result (AddsPlaces self.old self.new (here place)) }
@@ -139,7 +140,7 @@ impl Emitter {
     }
 
     /// Leaves the innermost loop, whose value isn't wanted.
-    pub fn leave_loop(&mut self, place: Place, around: Loop) -> Result<(), CompileError>
+    pub fn leave_loop(&mut self, place: Site, around: Loop) -> Result<(), CompileError>
         requires stands { Stands self.old }
         requires is { self.old.scope.around ≡ Some around }
         requires unwanted { around.is_wanted ≡ false }
@@ -155,7 +156,7 @@ impl Emitter {
     }
 
     /// Leaves the innermost loop with the value on top, which has a slot of its own while the operands of the loop go.
-    pub fn leave_with(&mut self, place: Place, around: Loop) -> Result<(), CompileError>
+    pub fn leave_with(&mut self, place: Site, around: Loop) -> Result<(), CompileError>
         requires stands { Stands self.old }
         requires is { self.old.scope.around ≡ Some around }
         requires wanted { around.is_wanted ≡ true }
@@ -172,7 +173,7 @@ impl Emitter {
     }
 
     /// Disarms the handlers that were armed in the loop.
-    fn disarm_down(&mut self, place: Place, around: Loop) -> Result<(), CompileError>
+    fn disarm_down(&mut self, place: Site, around: Loop) -> Result<(), CompileError>
         requires stands { Stands self.old }
         requires is { self.old.scope.around ≡ Some around }
         ensures bare { OnOk result (IsBare around self.new.code.level self.new.code.labels) }
@@ -188,7 +189,7 @@ impl Emitter {
     }
 
     /// Drops the iterator of a loop that has one.
-    fn drop_walk(&mut self, place: Place, walks: bool) -> Result<(), CompileError>
+    fn drop_walk(&mut self, place: Site, walks: bool) -> Result<(), CompileError>
         requires { self.old.code.level.least + count walks ≤ self.old.code.level.iterators }
         ensures operands { OnOk result (self.new.code.operands ≡ self.old.code.operands) }
         ensures level { OnOk result (self.new.code.level ≡ record self.old.code.level {
@@ -207,7 +208,7 @@ impl Emitter {
     /// Declares the variable that counts the items of a loop, if there is one.
     pub fn walked(
         &mut self,
-        place: Place,
+        place: Site,
         counter: Option<Binding>,
     ) -> Result<Option<u16>, CompileError>
         requires { self.old.code.level.floor ≤ self.old.code.operands }

@@ -1,7 +1,9 @@
 //! The pools that operations have indices into, without repeats.
 
 use crate::table::Table;
-use rhai_lexer::{CompileError, Names, Operator, Place, Problem, Thing};
+use grain_base::pos::Site;
+use rhai_errors::{CompileError, Problem, Thing};
+use rhai_lexer::{Names, Operator};
 use rhai_syntax::Literal;
 use std::alloc::Global;
 use std::collections::HashMap;
@@ -92,6 +94,6 @@ fn place_in(list: &mut Vec<Operator>, operator: Operator) -> Result<u32, Compile
 pub fn index_of(count: usize, thing: Thing) -> Result<u32, CompileError> {
     match u16::try_from(count) {
         Ok(index) => Ok(u32::from(index)),
-        Err(_) => Err(CompileError::new(Place::NONE, Problem::TooMany(thing))),
+        Err(_) => Err(CompileError::new(Site::NONE, Problem::TooMany(thing))),
     }
 }

@@ -3,10 +3,10 @@ ghost use Rattle.std.specs.Prelude.{◌≡◌, ◌≤◌, IfSome, Some};
 ghost use Rattle.grain_base.specs.Place.{place_of};
 
 use grain_base::Position;
-use rhai_lexer::Place;
+use grain_base::pos::Site;
 
 /// A place as a position of a program, which is none if its numbers are too great.
-pub fn position(place: Place) -> Position
+pub fn position(place: Site) -> Position
     ensures own { IfSome (place_of result) (λ p. place ≡ record { line = p.0; column = p.1 }) }
     ensures kept { 1 ≤ place.line → place.line ≤ 65535 → place.column ≤ 65535
         → place_of result ≡ Some (place.line, place.column) }

@@ -1,7 +1,8 @@
 //! Variables by their slots, and the loop that can be left.
 ghost use Rattle.std.specs.Prelude.{◌≡◌, None};
 
-use rhai_lexer::{CompileError, Place, Problem, Thing};
+use grain_base::pos::Site;
+use rhai_errors::{CompileError, Problem, Thing};
 use rhai_syntax::Binding;
 use std::alloc::Global;
 use std::collections::HashMap;
@@ -12,7 +13,7 @@ pub struct Local {
     /// Its name.
     pub name: u32,
     /// Where it is declared.
-    pub place: Place,
+    pub place: Site,
     /// Whether it is a constant.
     pub is_const: bool,
 }
@@ -149,6 +150,6 @@ impl Scope {
 pub fn slot_of(count: usize) -> Result<u16, CompileError> {
     match u16::try_from(count) {
         Ok(slot) => Ok(slot),
-        Err(_) => Err(CompileError::new(Place::NONE, Problem::TooMany(Thing::Variables))),
+        Err(_) => Err(CompileError::new(Site::NONE, Problem::TooMany(Thing::Variables))),
     }
 }

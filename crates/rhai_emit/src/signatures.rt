@@ -5,7 +5,8 @@ ghost use Rattle.rhai_emit.specs.Places.{functions_places};
 
 use crate::declared::Declared;
 use crate::emitter::Signature;
-use rhai_lexer::{CompileError, Place};
+use grain_base::pos::Site;
+use rhai_errors::CompileError;
 use rhai_syntax::{Expr, Form, Function, Literal};
 use std::alloc::Global;
 use std::collections::{HashMap, HashSet};
@@ -14,7 +15,7 @@ use std::collections::{HashMap, HashSet};
 #[derive(Drop)]
 pub struct Body {
     /// Where it begins.
-    pub place: Place,
+    pub place: Site,
     /// Its statements.
     pub statements: Vec<Expr>,
 }

@@ -5,8 +5,9 @@ ghost use Rattle.rhai_emit.specs.Places.{here};
 
 use crate::emitter::Emitter;
 use crate::scope::{Found, Local, slot_of};
+use grain_base::pos::Site;
 use grain_code::Op;
-use rhai_lexer::{CompileError, Place, Problem, Thing};
+use rhai_errors::{CompileError, Problem, Thing};
 use std::alloc::AllocError;
 use strsim::levenshtein;
 
@@ -21,7 +22,7 @@ impl Emitter {
     ///
     /// # Errors
     /// No variable has this name, and the host has no variables.
-    pub fn find(&self, place: Place, name: u32) -> Result<Option<Found>, CompileError> {
+    pub fn find(&self, place: Site, name: u32) -> Result<Option<Found>, CompileError> {
         let found = self.scope.find(name);
         if found.is_none() && self.options.strict_variables {
             let similar = self.similar(name)?;
@@ -31,9 +32,9 @@ impl Emitter {
     }
 
     /// Where the variable is declared whose name is most similar to this one, or no place.
-    fn similar(&self, name: u32) -> Result<Place, AllocError> {
+    fn similar(&self, name: u32) -> Result<Site, AllocError> {
         let sought = self.pools.names.get(name);
-        let mut nearest = Place::NONE;
+        let mut nearest = Site::NONE;
         let mut least = SIMILAR.saturating_add(1);
         for local in &self.scope.locals {
             let found = self.pools.names.get(local.name);
@@ -50,7 +51,7 @@ impl Emitter {
     }
 
     /// The value of `global::NAME`.
-    pub fn qualified(&mut self, place: Place, space: u32, name: u32) -> Result<(), CompileError>
+    pub fn qualified(&mut self, place: Site, space: u32, name: u32) -> Result<(), CompileError>
         requires { self.old.code.level.floor ≤ self.old.code.operands }
         ensures written { OnOk result (IsWritten self.old self.new (self.old.code.operands + 1)) }
         ensures placed { OnOk result (AddsPlaces self.old self.new (here place)) }
@@ -63,7 +64,7 @@ impl Emitter {
     }
 
     /// The value of a variable.
-    pub fn load(&mut self, place: Place, name: u32) -> Result<(), CompileError>
+    pub fn load(&mut self, place: Site, name: u32) -> Result<(), CompileError>
         requires { self.old.code.level.floor ≤ self.old.code.operands }
         ensures written { OnOk result (IsWritten self.old self.new (self.old.code.operands + 1)) }
         ensures placed { OnOk result (AddsPlaces self.old self.new (here place)) }
@@ -75,7 +76,7 @@ impl Emitter {
     }
 
     /// The value that was given last becomes a variable.
-    pub fn declare(&mut self, place: Place, local: Local) -> Result<u16, CompileError>
+    pub fn declare(&mut self, place: Site, local: Local) -> Result<u16, CompileError>
         requires { self.old.code.level.floor + 1 ≤ self.old.code.operands }
         ensures written { OnOk result (IsWritten self.old self.new (self.old.code.operands - 1)) }
         ensures placed { OnOk result (AddsPlaces self.old self.new (here place)) }
@@ -93,8 +94,8 @@ impl Emitter {
     /// Assigns the value on top to a variable.
     pub fn assign(
         &mut self,
-        target: Place,
-        place: Place,
+        target: Site,
+        place: Site,
         name: u32,
         op: Option<u32>,
     ) -> Result<(), CompileError>
@@ -119,7 +120,7 @@ impl Emitter {
     }
 
     /// The variables down to this many are dropped.
-    pub fn leave(&mut self, place: Place, locals: usize) -> Result<(), CompileError>
+    pub fn leave(&mut self, place: Site, locals: usize) -> Result<(), CompileError>
         requires { self.old.code.level.floor ≤ self.old.code.operands }
         ensures written { OnOk result (IsWritten self.old self.new self.old.code.operands) }
         ensures placed { OnOk result (AddsPlaces self.old self.new (here place)) }
@@ -132,7 +133,7 @@ impl Emitter {
     }
 
     /// Drops the variables down to this many on a path that leaves here.
-    pub fn unwind(&mut self, place: Place, locals: usize) -> Result<(), CompileError>
+    pub fn unwind(&mut self, place: Site, locals: usize) -> Result<(), CompileError>
         requires { self.old.code.level.floor ≤ self.old.code.operands }
         ensures written { OnOk result (IsWritten self.old self.new self.old.code.operands) }
         ensures placed { OnOk result (AddsPlaces self.old self.new (here place)) }

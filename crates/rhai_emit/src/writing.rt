@@ -10,8 +10,10 @@ ghost use Rattle.rhai_emit.specs.Places.{here};
 
 use crate::emitter::Emitter;
 use crate::operators::token;
+use grain_base::pos::Site;
 use grain_code::{Field, Op, Pool};
-use rhai_lexer::{CompileError, Operator, Place, Problem, Thing};
+use rhai_errors::{CompileError, Problem, Thing};
+use rhai_lexer::Operator;
 use rhai_syntax::Literal;
 
 /// Code has an index into a pool as two bytes.
@@ -24,7 +26,7 @@ impl Emitter {
     /// There are more operands than a chunk can declare, an index is larger than code can have, or the allocator refused.
     pub fn put(
         &mut self,
-        place: Place,
+        place: Site,
         op: Op,
         takes: usize,
         gives: usize,
@@ -40,7 +42,7 @@ impl Emitter {
     }
 
     /// Jumps to a label if the condition on top is that truth value.
-    pub fn jump_where(&mut self, place: Place, is_so: bool, target: u32) -> Result<(), CompileError>
+    pub fn jump_where(&mut self, place: Site, is_so: bool, target: u32) -> Result<(), CompileError>
         requires room { self.old.code.level.floor + 1 ≤ self.old.code.operands }
         requires there { slice_get self.old.code.labels target
             ≡ Some (spot (self.old.code.operands - 1) self.old.code.level) }
@@ -57,7 +59,7 @@ impl Emitter {
     }
 
     /// The value that was given last is dropped if it isn't wanted.
-    pub fn given(&mut self, place: Place, is_wanted: bool) -> Result<(), CompileError>
+    pub fn given(&mut self, place: Site, is_wanted: bool) -> Result<(), CompileError>
         requires { self.old.code.level.floor + 1 ≤ self.old.code.operands }
         ensures written { OnOk result (IsWritten self.old self.new (self.old.code.operands - 1 + count is_wanted)) }
         ensures placed { OnOk result (AddsPlaces self.old self.new (here place)) }
@@ -69,7 +71,7 @@ impl Emitter {
     }
 
     /// What gives nothing gives unit if a value is wanted.
-    pub fn nothing(&mut self, place: Place, is_wanted: bool) -> Result<(), CompileError>
+    pub fn nothing(&mut self, place: Site, is_wanted: bool) -> Result<(), CompileError>
         requires { self.old.code.level.floor ≤ self.old.code.operands }
         ensures written { OnOk result (IsWritten self.old self.new (self.old.code.operands + count is_wanted)) }
         ensures placed { OnOk result (AddsPlaces self.old self.new (here place)) }
@@ -81,7 +83,7 @@ impl Emitter {
     }
 
     /// The value of a literal.
-    pub fn literal(&mut self, place: Place, literal: Literal) -> Result<(), CompileError>
+    pub fn literal(&mut self, place: Site, literal: Literal) -> Result<(), CompileError>
         requires { self.old.code.level.floor ≤ self.old.code.operands }
         ensures written { OnOk result (IsWritten self.old self.new (self.old.code.operands + 1)) }
         ensures placed { OnOk result (AddsPlaces self.old self.new (here place)) }
@@ -97,12 +99,7 @@ impl Emitter {
     }
 
     /// Calls the function of an operator.
-    pub fn operate(
-        &mut self,
-        place: Place,
-        operator: Operator,
-        argc: u8,
-    ) -> Result<(), CompileError>
+    pub fn operate(&mut self, place: Site, operator: Operator, argc: u8) -> Result<(), CompileError>
         requires { self.old.code.level.floor + argc ≤ self.old.code.operands }
         ensures written { OnOk result (IsWritten self.old self.new (self.old.code.operands - argc + 1)) }
         ensures placed { OnOk result (AddsPlaces self.old self.new (here place)) }
@@ -119,7 +116,7 @@ impl Emitter {
     }
 
     /// Calls a function by its name.
-    pub fn call(&mut self, place: Place, name: u32, argc: u8) -> Result<(), CompileError>
+    pub fn call(&mut self, place: Site, name: u32, argc: u8) -> Result<(), CompileError>
         requires { self.old.code.level.floor + argc ≤ self.old.code.operands }
         ensures written { OnOk result (IsWritten self.old self.new (self.old.code.operands - argc + 1)) }
         ensures placed { OnOk result (AddsPlaces self.old self.new (here place)) }
@@ -135,7 +132,7 @@ impl Emitter {
 }
 
 /// Each index of the operation is one that code can have.
-fn check_indices(place: Place, op: &Op) -> Result<(), CompileError> {
+fn check_indices(place: Site, op: &Op) -> Result<(), CompileError> {
     for field in op.fields().as_slice() {
         if let Field::Index(pool, index) = *field {
             check_index(place, pool, index)?;
@@ -145,7 +142,7 @@ fn check_indices(place: Place, op: &Op) -> Result<(), CompileError> {
 }
 
 /// An index that code can have.
-pub(crate) fn check_index(place: Place, pool: Pool, index: u32) -> Result<(), CompileError> {
+pub(crate) fn check_index(place: Site, pool: Pool, index: u32) -> Result<(), CompileError> {
     if index > MAX_INDEX {
         return Err(CompileError::new(place, Problem::TooMany(entries_of(pool))));
     }
@@ -165,7 +162,7 @@ fn entries_of(pool: Pool) -> Thing {
 }
 
 /// A count of arguments as code has it.
-pub fn argc_of(place: Place, count: usize) -> Result<u8, CompileError>
+pub fn argc_of(place: Site, count: usize) -> Result<u8, CompileError>
     ensures { IfOk result (λ n. n ≡ count) }
 {
     match u8::try_from(count) {
@@ -175,7 +172,7 @@ pub fn argc_of(place: Place, count: usize) -> Result<u8, CompileError>
 }
 
 /// A count of items as code has it.
-pub fn len_of(place: Place, count: usize) -> Result<u16, CompileError>
+pub fn len_of(place: Site, count: usize) -> Result<u16, CompileError>
     ensures { IfOk result (λ n. n ≡ count) }
 {
     match u16::try_from(count) {

@@ -1,6 +1,6 @@
 //! Lexemes: the words, signs and literals of a source text.
 
-use crate::error::Place;
+use grain_base::pos::Site;
 
 /// An operator between two operands, or before one.
 #[derive(Clone, Copy, Debug, PartialEq, Eq)]
@@ -175,7 +175,7 @@ pub struct Lexeme {
     /// What it is.
     pub kind: Kind,
     /// Where it begins.
-    pub place: Place,
+    pub place: Site,
 }
 
 /// The keywords.

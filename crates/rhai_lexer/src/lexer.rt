@@ -1,9 +1,10 @@
 //! Splitting a source text into lexemes.
 
-use crate::error::{CompileError, Place, Problem};
 use crate::lexeme::{Kind, Lexeme, Mark, Operator, SIGNS, keyword};
 use crate::names::Names;
 use crate::scan::{Scan, begins_name, continues_name};
+use grain_base::pos::Site;
+use rhai_errors::{CompileError, Problem};
 use std::alloc::Global;
 
 /// Lexemes, with the names and the texts that they have by their indices.
@@ -112,7 +113,7 @@ impl<'s> Lexer<'s> {
     }
 
     /// A raw string, or a sign that begins with `#`.
-    fn hashed(&mut self, place: Place) -> Result<Kind, CompileError> {
+    fn hashed(&mut self, place: Site) -> Result<Kind, CompileError> {
         match self.scan.hashes() {
             Some(hashes) => {
                 let text = self.scan.raw_string(self.alloc, place, hashes)?;
@@ -122,7 +123,7 @@ impl<'s> Lexer<'s> {
         }
     }
 
-    fn sign(&mut self, place: Place, c: char) -> Result<Kind, CompileError> {
+    fn sign(&mut self, place: Site, c: char) -> Result<Kind, CompileError> {
         if self.scan.has_ahead(0, "!in") && !self.scan.peek(3).is_some_and(continues_name) {
             self.scan.skip(3);
             return Ok(Kind::Operator(Operator::NotIn));
@@ -148,13 +149,13 @@ impl<'s> Lexer<'s> {
         }
     }
 
-    fn text(&mut self, place: Place) -> Result<Kind, CompileError> {
+    fn text(&mut self, place: Site) -> Result<Kind, CompileError> {
         let text = self.scan.string(self.alloc, place)?;
         Ok(Kind::Text(self.found.texts.index(text)?))
     }
 
     /// A string in back ticks, up to its end or to its first interpolation. A line end after the back tick isn't part of it.
-    fn first_piece(&mut self, place: Place) -> Result<Kind, CompileError> {
+    fn first_piece(&mut self, place: Site) -> Result<Kind, CompileError> {
         self.scan.skip(1);
         if self.scan.peek(0) == Some('\n') {
             self.scan.skip(1);
@@ -166,7 +167,7 @@ impl<'s> Lexer<'s> {
     }
 
     /// A string in back ticks continues after an interpolation.
-    fn next_piece(&mut self, place: Place) -> Result<Kind, CompileError> {
+    fn next_piece(&mut self, place: Site) -> Result<Kind, CompileError> {
         self.scan.skip(1);
         let _ = self.interpolations.pop();
         match self.piece(place)? {
@@ -176,7 +177,7 @@ impl<'s> Lexer<'s> {
     }
 
     /// The index of a piece, and whether the string ends with it.
-    fn piece(&mut self, place: Place) -> Result<(u32, bool), CompileError> {
+    fn piece(&mut self, place: Site) -> Result<(u32, bool), CompileError> {
         let (text, is_last) = self.scan.piece(self.alloc, place)?;
         if !is_last {
             self.interpolations.push(self.braces)?;

@@ -1,12 +1,13 @@
 //! Literals: numbers, characters, and strings of all kinds.
 
-use crate::error::{CompileError, Place, Problem, Thing};
 use crate::scan::{Scan, continues_name};
+use grain_base::pos::Site;
+use rhai_errors::{CompileError, Problem, Thing};
 use std::alloc::Global;
 
 impl<'s> Scan<'s> {
     /// A number to the base 10, 16, 8 or 2. To the other bases than 10 it may have all 64 bits.
-    pub(crate) fn number(&mut self, place: Place) -> Result<i64, CompileError> {
+    pub(crate) fn number(&mut self, place: Site) -> Result<i64, CompileError> {
         let radix = match (self.peek(0), self.peek(1)) {
             (Some('0'), Some('x' | 'X')) => 16,
             (Some('0'), Some('o' | 'O')) => 8,
@@ -27,7 +28,7 @@ impl<'s> Scan<'s> {
         }
     }
 
-    fn digits(&mut self, place: Place, radix: u32) -> Result<u64, CompileError> {
+    fn digits(&mut self, place: Site, radix: u32) -> Result<u64, CompileError> {
         let mut value: u64 = 0;
         let mut count: usize = 0;
         for _turn in 0..self.len() {
@@ -52,7 +53,7 @@ impl<'s> Scan<'s> {
     }
 
     /// A number isn't followed by a part of a name, nor by a fraction.
-    fn check_end_of_number(&self, place: Place) -> Result<(), CompileError> {
+    fn check_end_of_number(&self, place: Site) -> Result<(), CompileError> {
         match (self.peek(0), self.peek(1)) {
             (Some('.'), Some(c)) if c.is_ascii_digit() => Err(CompileError::new(
                 place,
@@ -68,7 +69,7 @@ impl<'s> Scan<'s> {
     }
 
     /// A character in single quotes.
-    pub(crate) fn character(&mut self, place: Place) -> Result<char, CompileError> {
+    pub(crate) fn character(&mut self, place: Site) -> Result<char, CompileError> {
         self.skip(1);
         let c = match self.step() {
             Some('\\') => self.escape()?,
@@ -85,7 +86,7 @@ impl<'s> Scan<'s> {
     }
 
     /// A string in double quotes, which ends on its line except after a backslash.
-    pub(crate) fn string(&mut self, alloc: Global, place: Place) -> Result<String, CompileError> {
+    pub(crate) fn string(&mut self, alloc: Global, place: Site) -> Result<String, CompileError> {
         self.skip(1);
         let mut text = String::new(alloc);
         for _turn in 0..self.len() {
@@ -131,7 +132,7 @@ impl<'s> Scan<'s> {
     pub(crate) fn raw_string(
         &mut self,
         alloc: Global,
-        place: Place,
+        place: Site,
         hashes: usize,
     ) -> Result<String, CompileError> {
         self.skip(hashes);
@@ -163,7 +164,7 @@ impl<'s> Scan<'s> {
     pub(crate) fn piece(
         &mut self,
         alloc: Global,
-        place: Place,
+        place: Site,
     ) -> Result<(String, bool), CompileError> {
         let mut text = String::new(alloc);
         for _turn in 0..=self.len() {
@@ -209,7 +210,7 @@ impl<'s> Scan<'s> {
     }
 
     /// The character whose code has this many hexadecimal digits.
-    fn escaped_code(&mut self, place: Place, count: usize) -> Result<char, CompileError> {
+    fn escaped_code(&mut self, place: Site, count: usize) -> Result<char, CompileError> {
         let mut code: u64 = 0;
         for _turn in 0..count {
             let digit = match self.step() {

@@ -1,6 +1,7 @@
 //! Texts without repeats, each with its index.
 
-use crate::error::{CompileError, Place, Problem, Thing};
+use grain_base::pos::Site;
+use rhai_errors::{CompileError, Problem, Thing};
 use std::alloc::Global;
 use std::collections::HashMap;
 
@@ -8,7 +9,7 @@ use std::collections::HashMap;
 #[derive(Drop)]
 pub struct Names {
     list: Vec<String>,
-    places: HashMap<String, u32>,
+    indices: HashMap<String, u32>,
 }
 
 impl Names {
@@ -16,7 +17,7 @@ impl Names {
     pub fn new(alloc: Global) -> Names {
         Names {
             list: Vec::new(alloc),
-            places: HashMap::new(alloc),
+            indices: HashMap::new(alloc),
         }
     }
 
@@ -25,16 +26,16 @@ impl Names {
     /// # Errors
     /// There are more texts than 32 bits count, or the allocator refused.
     pub fn index(&mut self, name: String) -> Result<u32, CompileError> {
-        if let Some(place) = self.places.get(name.as_str()) {
-            return Ok(*place);
+        if let Some(index) = self.indices.get(name.as_str()) {
+            return Ok(*index);
         }
-        let Ok(place) = u32::try_from(self.list.len()) else {
-            return Err(CompileError::new(Place::NONE, Problem::TooMany(Thing::Names)));
+        let Ok(index) = u32::try_from(self.list.len()) else {
+            return Err(CompileError::new(Site::NONE, Problem::TooMany(Thing::Names)));
         };
         let copy = name.clone()?;
         self.list.push(name)?;
-        let _ = self.places.insert(copy, place)?;
-        Ok(place)
+        let _ = self.indices.insert(copy, index)?;
+        Ok(index)
     }
 
     /// The text at an index, or the empty text if there is none.

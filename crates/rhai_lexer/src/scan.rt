@@ -1,6 +1,7 @@
 //! The characters of a source text, one after another, with their places.
 
-use crate::error::{CompileError, Place, Problem};
+use grain_base::pos::Site;
+use rhai_errors::{CompileError, Problem};
 
 /// The characters that are left of a source text.
 #[derive(Drop)]
@@ -8,7 +9,7 @@ pub(crate) struct Scan<'s> {
     text: &'s [char],
     at: usize,
     /// The place of the next character.
-    pub(crate) place: Place,
+    pub(crate) place: Site,
 }
 
 /// Whether a name may begin with the character.
@@ -26,7 +27,7 @@ impl<'s> Scan<'s> {
         Scan {
             text,
             at: 0,
-            place: Place::START,
+            place: Site::START,
         }
     }
 

@@ -1,6 +1,7 @@
 //! The syntax tree of a source text. Names and texts are indices.
 
-use rhai_lexer::{Names, Operator, Place};
+use grain_base::pos::Site;
+use rhai_lexer::{Names, Operator};
 
 /// A name, and where it is written.
 #[derive(Clone, Copy, Debug, PartialEq, Eq, Drop)]
@@ -8,7 +9,7 @@ pub struct Binding {
     /// The name.
     pub name: u32,
     /// Where it is written.
-    pub place: Place,
+    pub place: Site,
 }
 
 /// An expression or a statement, and where it begins.
@@ -16,7 +17,7 @@ pub struct Binding {
 #[cycle(syntax)]
 pub struct Expr {
     /// Where it begins. Of an assignment it is the place of its operator.
-    pub place: Place,
+    pub place: Site,
     /// What it is.
     pub form: Form,
 }
@@ -120,7 +121,7 @@ pub struct Operation {
     /// The operator.
     pub operator: Operator,
     /// Where the operator is.
-    pub place: Place,
+    pub place: Site,
     /// The operand to its right.
     pub right: Expr,
 }
@@ -130,7 +131,7 @@ pub struct Operation {
 #[cycle(syntax)]
 pub struct Access {
     /// Where its bracket or its name is.
-    pub place: Place,
+    pub place: Site,
     /// Whether the steps end early if the value is unit.
     pub is_optional: bool,
     /// What is reached.
@@ -164,7 +165,7 @@ pub struct Branch {
 #[cycle(syntax)]
 pub struct Arm {
     /// Where its first case is.
-    pub place: Place,
+    pub place: Site,
     /// The cases.
     pub cases: Vec<Case>,
     /// The condition, without which the arm isn't taken.
@@ -188,7 +189,7 @@ pub enum Case {
 #[derive(Drop)]
 pub struct Function {
     /// Where it begins.
-    pub place: Place,
+    pub place: Site,
     /// Its name.
     pub name: u32,
     /// Its parameters.

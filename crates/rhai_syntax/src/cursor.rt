@@ -1,9 +1,9 @@
 //! A walk over lexemes, and what has been read so far.
 
 use crate::ast::{Binding, Expr, Form, Function};
-use rhai_lexer::{
-    CompileError, Kind, Lexeme, Lexemes, Mark, Names, Operator, Place, Problem, Thing,
-};
+use grain_base::pos::Site;
+use rhai_errors::{CompileError, Problem, Thing};
+use rhai_lexer::{Kind, Lexeme, Lexemes, Mark, Names, Operator};
 use std::alloc::Global;
 use std::collections::HashSet;
 
@@ -67,7 +67,7 @@ impl Cursor {
             Some(lexeme) => *lexeme,
             None => Lexeme {
                 kind: Kind::Mark(Mark::End),
-                place: Place::NONE,
+                place: Site::NONE,
             },
         }
     }
@@ -85,7 +85,7 @@ impl Cursor {
         self.ahead(0)
     }
 
-    pub(crate) fn place(&self) -> Place {
+    pub(crate) fn place(&self) -> Site {
         self.peek().place
     }
 
@@ -126,7 +126,7 @@ impl Cursor {
         &mut self,
         mark: Mark,
         thing: Thing,
-        opened: Place,
+        opened: Site,
     ) -> Result<(), CompileError> {
         if self.eat(mark) {
             Ok(())
@@ -298,7 +298,7 @@ impl Cursor {
     }
 
     /// The expression of a form that begins at the place.
-    pub(crate) fn expr(&self, place: Place, form: Form) -> Expr {
+    pub(crate) fn expr(&self, place: Site, form: Form) -> Expr {
         Expr { place, form }
     }
 }

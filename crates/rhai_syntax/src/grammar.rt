@@ -3,11 +3,13 @@
 
 ghost use Rattle.std.specs.Prelude.{IfOk};
 ghost use Rattle.std.specs.List.{All};
-ghost use Rattle.rhai_lexer.specs.Places.{HasPlaces};
+ghost use Rattle.rhai_errors.specs.Places.{HasPlaces};
 
 use crate::ast::{Binding, Expr, Form, Function, Operation, Syntax};
 use crate::cursor::Cursor;
-use rhai_lexer::{CompileError, Kind, Mark, Operator, Place, Problem, Thing, split_into_lexemes};
+use grain_base::pos::Site;
+use rhai_errors::{CompileError, Problem, Thing};
+use rhai_lexer::{Kind, Mark, Operator, split_into_lexemes};
 use std::alloc::{AllocError, Global};
 
 /// How deep expressions may nest, which bounds the call stack.
@@ -191,7 +193,7 @@ impl<F: Fn(&mut Cursor, usize, u8) -> Result<Expr, CompileError>> Grammar<F> {
         cursor: &mut Cursor,
         close: Mark,
         thing: Thing,
-        opened: Place,
+        opened: Site,
     ) -> Result<Vec<Expr>, CompileError>
         requires { (c : _) (least : _) → F.pre self.now.reads c self.now.depth least }
     {
@@ -250,7 +252,7 @@ fn this_type(cursor: &mut Cursor) -> Result<Option<u32>, CompileError> {
 }
 
 /// Names of parameters with commas between them, up to the parenthesis that closes them.
-fn params(cursor: &mut Cursor, opened: Place) -> Result<Vec<Binding>, CompileError> {
+fn params(cursor: &mut Cursor, opened: Site) -> Result<Vec<Binding>, CompileError> {
     let unclosed = Problem::Unclosed(Thing::RightParen, opened);
     let mut params = Vec::new(cursor.alloc);
     for _turn in 0..cursor.left() {

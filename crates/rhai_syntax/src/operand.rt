@@ -3,7 +3,9 @@
 use crate::ast::{Access, Binding, Entry, Expr, Form, Function, Literal, Part};
 use crate::cursor::Cursor;
 use crate::grammar::{ALONE, Grammar, add_param};
-use rhai_lexer::{CompileError, Kind, Mark, Operator, Place, Problem, Thing};
+use grain_base::pos::Site;
+use rhai_errors::{CompileError, Problem, Thing};
+use rhai_lexer::{Kind, Mark, Operator};
 
 impl<F: Fn(&mut Cursor, usize, u8) -> Result<Expr, CompileError>> Grammar<F> {
     /// An operand with the operators before it and the steps after it.
@@ -25,7 +27,7 @@ impl<F: Fn(&mut Cursor, usize, u8) -> Result<Expr, CompileError>> Grammar<F> {
     fn operated(
         &self,
         cursor: &mut Cursor,
-        place: Place,
+        place: Site,
         operator: Operator,
     ) -> Result<Expr, CompileError>
         requires { (c : _) (least : _) → F.pre self.now.reads c self.now.depth least }
@@ -46,7 +48,7 @@ impl<F: Fn(&mut Cursor, usize, u8) -> Result<Expr, CompileError>> Grammar<F> {
     fn closure(
         &self,
         cursor: &mut Cursor,
-        place: Place,
+        place: Site,
         operator: Operator,
     ) -> Result<Expr, CompileError>
         requires { (c : _) (least : _) → F.pre self.now.reads c self.now.depth least }
@@ -76,7 +78,7 @@ impl<F: Fn(&mut Cursor, usize, u8) -> Result<Expr, CompileError>> Grammar<F> {
     }
 
     /// What begins with a keyword or a bracket.
-    fn marked(&self, cursor: &mut Cursor, place: Place, mark: Mark) -> Result<Expr, CompileError>
+    fn marked(&self, cursor: &mut Cursor, place: Site, mark: Mark) -> Result<Expr, CompileError>
         requires { (c : _) (least : _) → F.pre self.now.reads c self.now.depth least }
     {
         match mark {
@@ -90,7 +92,7 @@ impl<F: Fn(&mut Cursor, usize, u8) -> Result<Expr, CompileError>> Grammar<F> {
         }
     }
 
-    fn bracketed(&self, cursor: &mut Cursor, place: Place, mark: Mark) -> Result<Expr, CompileError>
+    fn bracketed(&self, cursor: &mut Cursor, place: Site, mark: Mark) -> Result<Expr, CompileError>
         requires { (c : _) (least : _) → F.pre self.now.reads c self.now.depth least }
     {
         cursor.go();
@@ -109,7 +111,7 @@ impl<F: Fn(&mut Cursor, usize, u8) -> Result<Expr, CompileError>> Grammar<F> {
     }
 
     /// What is in parentheses, after the first of them.
-    fn parenthesized(&self, cursor: &mut Cursor, place: Place) -> Result<Expr, CompileError>
+    fn parenthesized(&self, cursor: &mut Cursor, place: Site) -> Result<Expr, CompileError>
         requires { (c : _) (least : _) → F.pre self.now.reads c self.now.depth least }
     {
         if cursor.eat(Mark::RightParen) {
@@ -121,7 +123,7 @@ impl<F: Fn(&mut Cursor, usize, u8) -> Result<Expr, CompileError>> Grammar<F> {
     }
 
     /// The properties of a map, up to its brace.
-    fn entries(&self, cursor: &mut Cursor, opened: Place) -> Result<Vec<Entry>, CompileError>
+    fn entries(&self, cursor: &mut Cursor, opened: Site) -> Result<Vec<Entry>, CompileError>
         requires { (c : _) (least : _) → F.pre self.now.reads c self.now.depth least }
     {
         let mut entries = Vec::new(cursor.alloc);
@@ -148,7 +150,7 @@ impl<F: Fn(&mut Cursor, usize, u8) -> Result<Expr, CompileError>> Grammar<F> {
     }
 
     /// A name, a call, a text or a character.
-    fn plain(&self, cursor: &mut Cursor, place: Place) -> Result<Expr, CompileError>
+    fn plain(&self, cursor: &mut Cursor, place: Site) -> Result<Expr, CompileError>
         requires { (c : _) (least : _) → F.pre self.now.reads c self.now.depth least }
     {
         match cursor.peek().kind {
@@ -162,7 +164,7 @@ impl<F: Fn(&mut Cursor, usize, u8) -> Result<Expr, CompileError>> Grammar<F> {
     }
 
     /// A variable, or a call of a function by its name.
-    fn named(&self, cursor: &mut Cursor, place: Place, name: u32) -> Result<Expr, CompileError>
+    fn named(&self, cursor: &mut Cursor, place: Site, name: u32) -> Result<Expr, CompileError>
         requires { (c : _) (least : _) → F.pre self.now.reads c self.now.depth least }
     {
         cursor.go();
@@ -184,7 +186,7 @@ impl<F: Fn(&mut Cursor, usize, u8) -> Result<Expr, CompileError>> Grammar<F> {
     fn interpolated(
         &self,
         cursor: &mut Cursor,
-        place: Place,
+        place: Site,
         first: u32,
     ) -> Result<Expr, CompileError>
         requires { (c : _) (least : _) → F.pre self.now.reads c self.now.depth least }
@@ -291,7 +293,7 @@ impl<F: Fn(&mut Cursor, usize, u8) -> Result<Expr, CompileError>> Grammar<F> {
 }
 
 /// A literal, which is the next lexeme.
-fn literal(cursor: &mut Cursor, place: Place, literal: Literal) -> Result<Expr, CompileError> {
+fn literal(cursor: &mut Cursor, place: Site, literal: Literal) -> Result<Expr, CompileError> {
     cursor.go();
     Ok(cursor.expr(place, Form::Literal(literal)))
 }
@@ -299,7 +301,7 @@ fn literal(cursor: &mut Cursor, place: Place, literal: Literal) -> Result<Expr, 
 /// An operator before its operand. The negative of an integer literal is a literal.
 fn prefixed(
     cursor: &Cursor,
-    place: Place,
+    place: Site,
     operator: Operator,
     operand: Expr,
 ) -> Result<Expr, CompileError> {

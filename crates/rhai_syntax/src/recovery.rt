@@ -1,7 +1,8 @@
 //! Going on after an error, so that one look at a text shows more than its first error.
 
 use crate::cursor::Cursor;
-use rhai_lexer::{CompileError, Kind, Lexeme, Mark, Problem};
+use rhai_errors::{CompileError, Problem};
+use rhai_lexer::{Kind, Lexeme, Mark};
 use std::alloc::AllocError;
 use std::mem;
 

@@ -3,7 +3,9 @@
 use crate::ast::{Access, Arm, Binding, Branch, Case, Catch, Expr, Form, Literal, Part};
 use crate::cursor::Cursor;
 use crate::grammar::{ALONE, Grammar};
-use rhai_lexer::{CompileError, Kind, Mark, Operator, Place, Problem, Thing};
+use grain_base::pos::Site;
+use rhai_errors::{CompileError, Problem, Thing};
+use rhai_lexer::{Kind, Mark, Operator};
 
 impl<F: Fn(&mut Cursor, usize, u8) -> Result<Expr, CompileError>> Grammar<F> {
     /// Statements in braces.
@@ -74,7 +76,7 @@ impl<F: Fn(&mut Cursor, usize, u8) -> Result<Expr, CompileError>> Grammar<F> {
     fn declaration(
         &self,
         cursor: &mut Cursor,
-        place: Place,
+        place: Site,
         is_const: bool,
     ) -> Result<Expr, CompileError>
         requires { (c : _) (least : _) → F.pre self.now.reads c self.now.depth least }
@@ -91,7 +93,7 @@ impl<F: Fn(&mut Cursor, usize, u8) -> Result<Expr, CompileError>> Grammar<F> {
     }
 
     /// What leaves a loop or a function.
-    fn leaving(&self, cursor: &mut Cursor, place: Place, mark: Mark) -> Result<Expr, CompileError>
+    fn leaving(&self, cursor: &mut Cursor, place: Site, mark: Mark) -> Result<Expr, CompileError>
         requires { (c : _) (least : _) → F.pre self.now.reads c self.now.depth least }
     {
         cursor.go();
@@ -115,7 +117,7 @@ impl<F: Fn(&mut Cursor, usize, u8) -> Result<Expr, CompileError>> Grammar<F> {
     }
 
     /// An expression, or an assignment to one.
-    fn assignment(&self, cursor: &mut Cursor, place: Place) -> Result<Expr, CompileError>
+    fn assignment(&self, cursor: &mut Cursor, place: Site) -> Result<Expr, CompileError>
         requires { (c : _) (least : _) → F.pre self.now.reads c self.now.depth least }
     {
         let target = self.expr(cursor, 0)?;
@@ -137,7 +139,7 @@ impl<F: Fn(&mut Cursor, usize, u8) -> Result<Expr, CompileError>> Grammar<F> {
     pub(crate) fn compound(
         &self,
         cursor: &mut Cursor,
-        place: Place,
+        place: Site,
         mark: Mark,
     ) -> Result<Expr, CompileError>
         requires { (c : _) (least : _) → F.pre self.now.reads c self.now.depth least }
@@ -157,7 +159,7 @@ impl<F: Fn(&mut Cursor, usize, u8) -> Result<Expr, CompileError>> Grammar<F> {
         }
     }
 
-    fn choice(&self, cursor: &mut Cursor, place: Place) -> Result<Expr, CompileError>
+    fn choice(&self, cursor: &mut Cursor, place: Site) -> Result<Expr, CompileError>
         requires { (c : _) (least : _) → F.pre self.now.reads c self.now.depth least }
     {
         let mut branches = Vec::new(cursor.alloc);
@@ -184,7 +186,7 @@ impl<F: Fn(&mut Cursor, usize, u8) -> Result<Expr, CompileError>> Grammar<F> {
         Ok(Branch { condition, body })
     }
 
-    fn repeated(&self, cursor: &mut Cursor, place: Place, mark: Mark) -> Result<Expr, CompileError>
+    fn repeated(&self, cursor: &mut Cursor, place: Site, mark: Mark) -> Result<Expr, CompileError>
         requires { (c : _) (least : _) → F.pre self.now.reads c self.now.depth least }
     {
         cursor.go();
@@ -213,7 +215,7 @@ impl<F: Fn(&mut Cursor, usize, u8) -> Result<Expr, CompileError>> Grammar<F> {
     }
 
     /// A loop over the items of a value.
-    fn walk(&self, cursor: &mut Cursor, place: Place) -> Result<Expr, CompileError>
+    fn walk(&self, cursor: &mut Cursor, place: Site) -> Result<Expr, CompileError>
         requires { (c : _) (least : _) → F.pre self.now.reads c self.now.depth least }
     {
         cursor.go();
@@ -229,7 +231,7 @@ impl<F: Fn(&mut Cursor, usize, u8) -> Result<Expr, CompileError>> Grammar<F> {
         Ok(cursor.expr(place, Form::For(name, counter, items, body)))
     }
 
-    fn tried(&self, cursor: &mut Cursor, place: Place) -> Result<Expr, CompileError>
+    fn tried(&self, cursor: &mut Cursor, place: Site) -> Result<Expr, CompileError>
         requires { (c : _) (least : _) → F.pre self.now.reads c self.now.depth least }
     {
         cursor.go();
@@ -248,7 +250,7 @@ impl<F: Fn(&mut Cursor, usize, u8) -> Result<Expr, CompileError>> Grammar<F> {
         Ok(cursor.expr(place, Form::Try(body, Catch { name, rethrows }, catching)))
     }
 
-    fn switch(&self, cursor: &mut Cursor, place: Place) -> Result<Expr, CompileError>
+    fn switch(&self, cursor: &mut Cursor, place: Site) -> Result<Expr, CompileError>
         requires { (c : _) (least : _) → F.pre self.now.reads c self.now.depth least }
     {
         cursor.go();
@@ -260,7 +262,7 @@ impl<F: Fn(&mut Cursor, usize, u8) -> Result<Expr, CompileError>> Grammar<F> {
     }
 
     /// The arms of a switch, up to its brace.
-    fn arms(&self, cursor: &mut Cursor, opened: Place) -> Result<Vec<Arm>, CompileError>
+    fn arms(&self, cursor: &mut Cursor, opened: Site) -> Result<Vec<Arm>, CompileError>
         requires { (c : _) (least : _) → F.pre self.now.reads c self.now.depth least }
     {
         let mut arms = Vec::new(cursor.alloc);

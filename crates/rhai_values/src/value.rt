@@ -135,7 +135,7 @@ impl Value {
     }
 }
 
-/// A value of the host's own. Scripts pass it on and compare it, and can't make one. The host knows what it stands for.
+/// A value of the host's own. Scripts pass it on and compare it, and can't make one. The host knows its meaning.
 #[derive(Clone, Copy, Debug, PartialEq, Eq, Drop)]
 pub struct Foreign {
     /// Of which kind it is.

@@ -2,13 +2,13 @@
 
 use crate::scripts::compiled;
 use clap::ArgMatches;
+use grain::pos::Site;
 use grain_cli::arguments::{Argument, Subcommand};
 use grain_cli::failure::Failure;
 use grain_cli::files::read_bytes;
 use grain_cli::json_lines::{line_of, writer};
 use grain_cli::output::write_standard;
 use json::Writer;
-use rhai_compile::Place;
 use std::alloc::{AllocError, Global};
 
 /// `grain check`
@@ -39,7 +39,7 @@ fn write_number(json: &mut Writer, name: &str, number: Option<u32>) -> Result<()
 }
 
 /// Appends an error as a JSON object: its line and column, null if it has none, and what is wrong.
-fn write_error(json: &mut Writer, place: Place, message: &str) -> Result<(), AllocError> {
+fn write_error(json: &mut Writer, place: Site, message: &str) -> Result<(), AllocError> {
     let is_somewhere = place.is_some();
     json.begin_object()?;
     write_number(json, "line", is_somewhere.then_some(place.line))?;
@@ -62,7 +62,7 @@ fn write_errors(alloc: Global, json: &mut Writer, failure: &Failure) -> Result<(
         }
         failure => {
             let message = format!(in alloc; "{failure}")?;
-            write_error(json, Place::NONE, message.as_str())
+            write_error(json, Site::NONE, message.as_str())
         }
     }
 }

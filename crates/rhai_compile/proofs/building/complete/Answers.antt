@@ -20,7 +20,7 @@ use Rattle.grain_builder.specs.Finished.{AreTypedCuts, LeadAmong}
 use Rattle.grain_builder.specs.declared.assembler.TableTargets.{TableTargets}
 use Rattle.rhai_compile.specs.Laid.{IsLaidOut}
 use Rattle.rhai_compile.specs.Positions.{AreApart, ArePlacedAt, IsListedPosition, IsPositionIn}
-use Rattle.rhai_lexer.specs.declared.error.Place.{Place}
+use Rattle.grain_base.specs.declared.pos.Site.{Site}
 use Rattle.std.specs.Prelude.{IfSome}
 use Rattle.rhai_compile.proofs.BuildPremises.{laid_accepted}
 use Rattle.rhai_compile.proofs.LocatedPositions.{if_located, offsets_apart}
@@ -63,14 +63,14 @@ returns-clause-positions c =
 pub returns-clause-placed : goal.returns-clause-placed
 returns-clause-placed c =
     if_code c.verified.result (λ b. b.program) (IsPositionIn c.args.made.0.places.items) _ c.verified.ensures.positions
-    (subst (λ (ps : List Place). IfSome c.in_ok-program-2.program.positions (All (IsPositionIn ps))) c.deref-6.ensures.value c.in_ok-program-2.ensures.placed)
+    (subst (λ (ps : List Site). IfSome c.in_ok-program-2.program.positions (All (IsPositionIn ps))) c.deref-6.ensures.value c.in_ok-program-2.ensures.placed)
 
 pub positioned-requires : goal.positioned-requires
 positioned-requires c =
     let p = c.in_ok-program.program in
     let ops : List Op = c.args.made.0.ops.items in
     let made : IsAssembly ops p.code c.in_ok-program.offsets.items = subst (λ (xs : List Op). IsAssembly xs p.code c.in_ok-program.offsets.items) c.deref-3.ensures.value c.in_ok-program.ensures.offsets in
-    let many : length c.deref-6.result.now ≡ length ops = ap (λ (ps : List Place). length ps) c.deref-6.ensures.value ∙ c.requires.placed in
+    let many : length c.deref-6.result.now ≡ length ops = ap (λ (ps : List Site). length ps) c.deref-6.ensures.value ∙ c.requires.placed in
     subst (AreApart (length c.deref-6.result.now) (length p.code)) (sym c.deref-5.ensures.value)
     (subst (λ (n : ℕ). AreApart n (length p.code) c.in_ok-program.offsets.items) (sym many) (offsets_apart ops p.code c.in_ok-program.offsets.items made))
 
@@ -78,7 +78,7 @@ pub returns-clause-located : goal.returns-clause-located
 returns-clause-located c =
     let lengths : List ℕ = c.args.lines.now.lengths.items in
     let ops : List Op = c.args.made.0.ops.items in
-    let places : List Place = c.args.made.0.places.items in
+    let places : List Site = c.args.made.0.places.items in
     let p = c.in_ok-program.program in
     let q = c.in_ok-program-2.program in
     let offsets : List ℕ = c.in_ok-program.offsets.items in
@@ -87,7 +87,7 @@ returns-clause-located c =
     let placed : ArePlacedAt lengths places (offsets_from 0 ops) q.positions =
     subst (λ (xs : List ℕ). ArePlacedAt lengths places xs q.positions) made.placed
     (subst (λ (xs : List ℕ). ArePlacedAt lengths places xs q.positions) c.deref-5.ensures.value
-    (subst (λ (ps : List Place). ArePlacedAt lengths ps c.deref-5.result.now q.positions) c.deref-6.ensures.value c.in_ok-program-2.ensures.located)) in
+    (subst (λ (ps : List Site). ArePlacedAt lengths ps c.deref-5.result.now q.positions) c.deref-6.ensures.value c.in_ok-program-2.ensures.located)) in
     if_located lengths places ops c.verified.result (λ b. b.program) q.positions
     (IfOk-weaker c.verified.result (λ b. b.program.code ≡ q.code) (λ b. (xs : List ℕ) × IsAssembly ops b.program.code xs)
     (λ b e. (offsets, subst (λ (bytes : List ℕ). IsAssembly ops bytes offsets) (sym (e ∙ code)) made)) c.verified.ensures.code)

@@ -10,7 +10,7 @@ use Rattle.rhai_compile.specs.Positions.{IsKeptPosition, IsListedPosition, IsPos
 use Rattle.rhai_compile.proofs.LocatedPositions.{AreFoundUpTo, found_all, found_more, kept_here}
 use Rattle.rhai_compile.proofs.PlacedPositions.{listed_dense, placed_dense}
 use Rattle.rhai_compile.proofs.building.dense.Goals as goal
-use Rattle.rhai_lexer.specs.declared.error.Place.{Place}
+use Rattle.grain_base.specs.declared.pos.Site.{Site}
 
 pub returns-clause-listed : goal.returns-clause-listed
 returns-clause-listed c = listed_dense c.args.lines.now.lengths.items (listed_positions c.dense.result) c.loop-index.positions.items _ (sym (places_listed c.dense.result) ∙ c.dense.ensures)
@@ -28,7 +28,7 @@ returns-clause-located c =
 pub loop-index-preserved : goal.loop-index-preserved
 loop-index-preserved c =
     let lengths : List ℕ = c.args.lines.now.lengths.items in
-    let places : List Place = c.args.places.now in
+    let places : List Site = c.args.places.now in
     let xs : List Position = c.loop-index.positions.items in
     let n : ℕ = c.loop-index.index in
     let position : Position = c.kept_place.result in
@@ -41,5 +41,5 @@ loop-index-preserved c =
       many = search rules;
       placed =
           found_more lengths places c.args.offsets.now c.args.len c.requires xs n position (omega (arith, c.loop-index-test.true)) (omega arith)
-          (λ place e. subst (λ (q : Place). IsPositionFor lengths q (place_of position)) (get_or_from_slice_get places n place _ e) c.kept_place.ensures.exact) c.loop-index.invariant.placed;
+          (λ place e. subst (λ (q : Site). IsPositionFor lengths q (place_of position)) (get_or_from_slice_get places n place _ e) c.kept_place.ensures.exact) c.loop-index.invariant.placed;
     }

@@ -8,12 +8,12 @@ use Rattle.rhai_compile.proofs.PlacedPositions.{positions_among}
 use Rattle.rhai_emit.proofs.PlaceTests.{and_both, and_left, and_right}
 use Rattle.rhai_emit.specs.Bodies.{bodies_places}
 use Rattle.rhai_emit.specs.Places.{Places, functions_places, pass, script_places, syntax_places}
-use Rattle.rhai_lexer.specs.declared.error.Place.{Place}
+use Rattle.grain_base.specs.declared.pos.Site.{Site}
 use Rattle.rhai_syntax.specs.declared.ast.Expr.{Expr}
 use Rattle.rhai_compile.proofs.programs.compile_syntax.Goals as goal
 
 -- what all places of the tree pass, all places of the operations do
-all_pass : (c : goal.After-drop-body-2) (test : Place → Bool) → pass test (syntax_places c.args.syntax) ≡ true → list_all test c.chunks.new.emitter.code.places ≡ true
+all_pass : (c : goal.After-drop-body-2) (test : Site → Bool) → pass test (syntax_places c.args.syntax) ≡ true → list_all test c.chunks.new.emitter.code.places ≡ true
 all_pass c test all =
     let begun : c.new-emitter.result.code.places ≡ [] = search rules in
     let body : c.deref-2.result.now ≡ c.args.syntax.body.items = search rules in
@@ -26,7 +26,7 @@ all_pass c test all =
 
 pub returns-clause-placed : goal.returns-clause-placed
 returns-clause-placed c =
-    let places : List Place = c.chunks.new.emitter.code.places in
+    let places : List Site = c.chunks.new.emitter.code.places in
     let these : Places = syntax_places c.args.syntax in
     IfOk-weaker c.finish.result (λ b. IfSome b.program.positions (All (IsPositionIn places))) (λ b. IfSome b.program.positions (All (IsPositionAmong these)))
     (λ b. positions_among these places (all_pass c) b.program.positions)
@@ -34,7 +34,7 @@ returns-clause-placed c =
 
 pub returns-clause-located : goal.returns-clause-located
 returns-clause-located c =
-    let places : List Place = c.chunks.new.emitter.code.places in
+    let places : List Site = c.chunks.new.emitter.code.places in
     let these : Places = syntax_places c.args.syntax in
     let lengths : List ℕ = c.args.lines.now.lengths.items in
     IfOk-weaker c.finish.result (λ b. IsLocated lengths places b.program) (λ b. EachHasPlace lengths these b.program)

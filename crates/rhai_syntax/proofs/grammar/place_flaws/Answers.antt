@@ -1,6 +1,6 @@
 use Rattle.std.proofs.Common.{length, arith}
 use Rattle.std.proofs.lemmas.List.Elements.{All-from_all_within, AllWithin-more_set, AllWithin-upto}
-use Rattle.rhai_lexer.specs.Places.{HasPlaces}
+use Rattle.rhai_errors.specs.Places.{HasPlaces}
 use Rattle.rhai_syntax.proofs.grammar.place_flaws.Goals as goal
 
 pub loop-flaw-preserved : goal.loop-flaw-preserved

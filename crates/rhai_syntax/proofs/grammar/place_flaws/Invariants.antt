@@ -1,5 +1,5 @@
 use Rattle.std.specs.List.{AllWithin}
-use Rattle.rhai_lexer.specs.Places.{HasPlaces}
+use Rattle.rhai_errors.specs.Places.{HasPlaces}
 use Rattle.rhai_syntax.proofs.grammar.place_flaws.Given as goal
 
 abbrev pub invariant-loop-flaw : goal.invariant-loop-flaw

@@ -10,4 +10,4 @@ pub invariant_of-self-2 : goal.invariant_of-self-2
 invariant_of-self-2 c =
     let k : Workings = workings_of c.self.inside in
     let room : k.level.floor + 1 ≤ k.operands = subst (λ (w : Unfinished). w.level.floor + 1 ≤ w.operands) (sym c.self.view_is) c.requires in
-    rw (c.in_ok-push.ensures.items, map-append, c.in_ok-frame.ensures) (begin_iterator k c.self.invariant room)
+    rw (c.in_ok-push.ensures.items, map-append, c.in_ok-level.ensures) (begin_iterator k c.self.invariant room)

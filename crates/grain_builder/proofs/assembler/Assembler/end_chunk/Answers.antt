@@ -15,4 +15,4 @@ invariant_of-self-2 c =
     let end : c.in-Ok-try_from.end ≡ length k.ops = (let h : c.in-Ok-try_from.end ≡ length c.self.inside.ops.items = search rules in h) ∙ many in
     let next : c.len-next.result ≡ length k.ops = (let h : c.len-next.result ≡ length c.self.inside.ops.items = search rules in h) ∙ many in
     let cut : c.new.result ≡ record { entry = k.level.home; end = length k.ops; max_stack = 65535 } = c.new.ensures ∙ (λ i. record { entry = entry i; end = end i; max_stack = 65535 }) in
-    rw (c.in_ok-push.ensures.items, c.outermost-frame.ensures, next) (one_chunk k c.self.invariant loose c.new.result cut)
+    rw (c.in_ok-push.ensures.items, c.outermost-level.ensures, next) (one_chunk k c.self.invariant loose c.new.result cut)

@@ -6,7 +6,7 @@ use Rattle.grain_builder.proofs.LabelLists.{outer_of, pushed, pushed_here, pushe
 use Rattle.grain_builder.proofs.assembler.Assembler.label_in.Goals as goal
 
 abbrev new : goal.After-self-1 → Label
-new c = record { at = 4294967295; outer = c.self.inside.pending; operands = c.args.operands; frame = c.args.frame }
+new c = record { at = 4294967295; outer = c.self.inside.pending; operands = c.args.operands; level = c.args.level }
 
 pub invariant_of-self-2 : goal.invariant_of-self-2
 invariant_of-self-2 c =

@@ -8,6 +8,6 @@ use Rattle.grain_builder.proofs.assembler.Assembler.release.Goals as goal
 pub invariant_of-self : goal.invariant_of-self
 invariant_of-self c =
     let k : Workings = workings_of c.self.inside in
-    let same : IsSameButFloor c.args.frame k.level = subst (λ (w : Unfinished). IsSameButFloor c.args.frame w.level) (sym c.self.view_is) c.requires in
-    let based : IsBased c.args.frame = subst (λ (l : Level). IsBased l) c.frame.view_is c.frame.invariant in
-    other_floor k c.self.invariant c.args.frame same based
+    let same : IsSameButFloor c.args.level k.level = subst (λ (w : Unfinished). IsSameButFloor c.args.level w.level) (sym c.self.view_is) c.requires in
+    let based : IsBased c.args.level = subst (λ (l : Level). IsBased l) c.level.view_is c.level.invariant in
+    other_floor k c.self.invariant c.args.level same based

@@ -10,6 +10,6 @@ pub invariant_of-self : goal.invariant_of-self
 invariant_of-self c =
     let k : Workings = workings_of c.self.inside in
     let loose : k.fixed ≡ false = subst (λ (w : Unfinished). w.fixed ≡ false) (sym c.self.view_is) c.requires.loose in
-    let home : c.args.frame.home ≡ k.level.home = subst (λ (w : Unfinished). c.args.frame.home ≡ w.level.home) (sym c.self.view_is) c.requires.home in
-    let based : IsBased c.args.frame = subst (λ (l : Level). IsBased l) c.frame.view_is c.frame.invariant in
-    elsewhere k c.self.invariant loose c.args.operands c.args.frame home (omega arith) based
+    let home : c.args.level.home ≡ k.level.home = subst (λ (w : Unfinished). c.args.level.home ≡ w.level.home) (sym c.self.view_is) c.requires.home in
+    let based : IsBased c.args.level = subst (λ (l : Level). IsBased l) c.level.view_is c.level.invariant in
+    elsewhere k c.self.invariant loose c.args.operands c.args.level home (omega arith) based
