@@ -3,7 +3,7 @@
 
     python3 tests/command.py FOLDER [NAME..] [--bless]
 
-FOLDER has the commands `grain`, `grain_check` and `grain_list`, as tools/build leaves them. NAME is a transcript without its
+FOLDER has the commands `grain` and `grain_check`, as tools/build leaves them. NAME is a transcript without its
 `.txt`; without one all are run. With --bless they get what is printed: read the difference before you commit it.
 
 A transcript is text with `$` examples, as pages have them (tests/transcripts.py), in a folder of its own. After a command are the

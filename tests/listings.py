@@ -1,11 +1,11 @@
 #!/usr/bin/env python3
-"""Holds the listings of grain_list against grain_check and against a model of its own, on lines that are made at random.
+"""Holds the listings of `grain lines` against grain_check and against a model of its own, on lines that are made at random.
 
-    python3 tests/listings.py CHECK LIST [--lines N] [--seed N]
+    python3 tests/listings.py CHECK GRAIN [--lines N] [--seed N]
 
-CHECK and LIST are the built programs, as `rt run` leaves them in crates/grain_check/out and crates/grain_list/out. The model
+CHECK and GRAIN are the built programs, as tools/build leaves them in bin/grain_check and bin/grain. The model
 is written from docs/FORMAT.md, whose instruction table it reads, and docs/LISTINGS.md. For each line it looks whether the listing's verdict is that of
-grain_check, and both end with one status; whether the rows of a chunk that passes are its instructions, a typing of it, just what is
+grain_check, and the statuses agree; whether the rows of a chunk that passes are its instructions, a typing of it, just what is
 reached, and up to the number of the verdict, each from where it says; whether the paths of a refusal lead along edges from the chunk's
 entry to a state that has that very flaw; whether the first chunk that is refused has the flaw of the verdict; whether the word that is
 named of a bad case is its first that doesn't fit; and whether the text says just what the JSON does. It ends with status 1 at the
@@ -540,15 +540,16 @@ def check_all(lines, verdicts, listings, text):
 def main():
     parser = argparse.ArgumentParser(description=__doc__.splitlines()[0])
     parser.add_argument("check")
-    parser.add_argument("list")
+    parser.add_argument("grain")
     parser.add_argument("--lines", type=int, default=1000)
     parser.add_argument("--seed", type=int, default=1)
     wanted = parser.parse_args()
     lines = lines_of(random.Random(wanted.seed), wanted.lines)
     verdicts, status = answers(wanted.check, lines)
-    listings, list_status = answers(wanted.list, lines, "--json")
-    text, text_status = answers(wanted.list, lines)
-    if len(verdicts) != len(lines) or len(listings) != len(lines) or not status == list_status == text_status:
+    listings, list_status = answers(wanted.grain, lines, "lines", "--json")
+    text, text_status = answers(wanted.grain, lines, "lines")
+    # A bad case has `grain_check` end with status 2, and `grain` with 1.
+    if len(verdicts) != len(lines) or len(listings) != len(lines) or not {0: 0, 2: 1}.get(status) == list_status == text_status:
         sys.exit(f"{len(lines)} lines, {len(verdicts)} verdicts, {len(listings)} listings; statuses {status}, {list_status} and {text_status}")
     for kind, count in check_all(lines, verdicts, listings, text).most_common():
         print(f"{count:8} {kind}")

@@ -1,5 +1,5 @@
 #!/usr/bin/env python3
-"""Draws the control flow of a chunk: grain_list --json <LINES | docs/pictures/flow.py FILE.svg [LINE [CHUNK]]
+"""Draws the control flow of a chunk: grain lines --json <LINES | docs/pictures/flow.py FILE.svg [LINE [CHUNK]]
 
 LINE and CHUNK are counted from 0. Addresses run down the page, with the instruction and what stands there; jumps go at the left,
 those of handlers dashed and in blue, and the path to a flaw is red. Only the standard library is needed.

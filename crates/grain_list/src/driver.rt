@@ -1,9 +1,11 @@
 //! A whole run over lines.
 
-use crate::failure::Failure;
 use crate::listing::Listing;
 use crate::object::write_json;
 use crate::text::write_text;
+use grain_cli::failure::Failure;
+use grain_cli::files::shown;
+use grain_cli::output::STANDARD;
 use grain_lines::{Summary, is_case, without_return};
 use grain_listing::Paint;
 use grain_stream::JsonStream;
@@ -11,21 +13,12 @@ use std::alloc::{AllocError, Global};
 use std::io;
 use std::io::{BufRead, Error, ErrorKind, Write};
 
-/// How listings are written.
-#[derive(Clone, Copy)]
-pub enum Form {
-    /// For people.
-    Text(Paint),
-    /// For programs, an object of JSON for each case.
-    Json,
-}
-
 /// What listings are written to.
 #[derive(Drop)]
 pub enum Listings<W> {
-    /// Text for people.
+    /// Text for people, in these colours.
     Text(Paint, W),
-    /// JSON for programs.
+    /// JSON for programs, an object for each case.
     Json(JsonStream<W>),
 }
 
@@ -56,11 +49,11 @@ fn put_text<W: Write>(
 }
 
 impl<W: Write> Listings<W> {
-    /// Listings of this form, of which none is written.
-    pub fn new(alloc: Global, form: Form, writer: W) -> Listings<W> {
-        match form {
-            Form::Text(paint) => Listings::Text(paint, writer),
-            Form::Json => Listings::Json(JsonStream::new(alloc, writer)),
+    /// Listings of which none is written: as text with these colours, or as JSON if there are none.
+    pub fn new(alloc: Global, paint: Option<Paint>, writer: W) -> Listings<W> {
+        match paint {
+            Some(paint) => Listings::Text(paint, writer),
+            None => Listings::Json(JsonStream::new(alloc, writer)),
         }
     }
 
@@ -79,31 +72,43 @@ impl<W: Write> Listings<W> {
     }
 }
 
+/// Why standard input could not be read.
+fn unread(alloc: Global, error: Error) -> Failure {
+    Failure::of_input(alloc, shown(STANDARD), error)
+}
+
 /// Reads the next line, and says whether there is one.
 ///
 /// # Errors
-/// [`Failure::Read`], or [`Failure::Memory`] if memory for the line was refused.
-fn read_line<R: BufRead>(reader: &mut R, line: &mut Vec<u8>) -> Result<bool, Failure> {
+/// The read failed, or memory for the line was refused.
+fn read_line<R: BufRead>(
+    alloc: Global,
+    reader: &mut R,
+    line: &mut Vec<u8>,
+) -> Result<bool, Failure> {
     line.clear();
-    let count = reader.read_until(b'\n', line).map_err(Failure::of_read)?;
-    Ok(count > 0)
+    match reader.read_until(b'\n', line) {
+        Ok(count) => Ok(count > 0),
+        Err(error) => Err(unread(alloc, error)),
+    }
 }
 
 /// Writes the listing of a case, and says whether the case is bad.
 ///
 /// # Errors
-/// [`Failure::Write`], or [`Failure::Memory`] if memory was refused.
+/// The listing could not be written, or memory was refused.
 fn answer<W: Write>(
     alloc: Global,
     case: &[u8],
     listings: &mut Listings<W>,
 ) -> Result<bool, Failure> {
     let listing = Listing::of(alloc, case)?;
-    listings.put(alloc, &listing).map_err(Failure::of_write)?;
+    listings.put(alloc, &listing).map_err(Failure::of_output)?;
     Ok(listing.is_bad())
 }
 
-/// Reads lines to the end, and writes a listing for each case once its line has been read.
+/// Reads lines to the end, and writes a listing for each case once its line has been read. The failures are those of standard
+/// input and of standard output.
 ///
 /// # Errors
 /// A read failed, a write failed, or memory was refused. What was read before a failed read is listed.
@@ -115,7 +120,7 @@ pub fn run<R: BufRead, W: Write>(
     let mut summary = Summary { cases: 0, bad: 0 };
     let mut line = Vec::new(alloc);
     for _turn in 0..u64::MAX {
-        if !read_line(reader, &mut line)? {
+        if !read_line(alloc, reader, &mut line)? {
             return Ok(summary);
         }
         let case = content(&line);
@@ -125,5 +130,5 @@ pub fn run<R: BufRead, W: Write>(
         let is_bad = answer(alloc, case, listings)?;
         summary.count(is_bad);
     }
-    Err(Failure::Read(Error::from(ErrorKind::FileTooLarge)))
+    Err(unread(alloc, Error::from(ErrorKind::FileTooLarge)))
 }

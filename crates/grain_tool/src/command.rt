@@ -5,6 +5,7 @@ mod check;
 mod compile;
 mod dump;
 mod flow;
+mod lines;
 mod list;
 mod parse;
 mod print;
@@ -46,6 +47,7 @@ const SUBCOMMANDS: &[Subcommand] = &[
     print::SUBCOMMAND,
     parse::SUBCOMMAND,
     list::SUBCOMMAND,
+    lines::SUBCOMMAND,
     flow::SUBCOMMAND,
     dump::SUBCOMMAND,
     smith::SUBCOMMAND,
@@ -107,6 +109,7 @@ pub fn dispatch(rt: &HostRuntime, name: &str, matches: &ArgMatches<'_>) -> Resul
         "run" => run::run(rt, matches),
         "smith" => smith::run(rt, matches),
         "list" => list::run(rt, matches),
+        "lines" => lines::run(rt, matches),
         "flow" => flow::run(rt, matches),
         "dump" => dump::run(rt, matches),
         "strip" => strip::strip(rt, matches),

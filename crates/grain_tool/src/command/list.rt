@@ -249,18 +249,22 @@ fn missing_of(
     }
 }
 
+/// The colours of text, or none if the arguments ask for JSON.
+pub fn paint_of(rt: &HostRuntime, matches: &ArgMatches<'_>) -> Option<Paint> {
+    if matches.get_flag("json") {
+        None
+    } else {
+        Some(Colours::of(matches).paint(rt))
+    }
+}
+
 /// Lists a program.
 pub fn run(rt: &HostRuntime, matches: &ArgMatches<'_>) -> Result<u8, Failure> {
     let path = matches.get_str("FILE").unwrap_or("-");
     let to = matches.get_str("output");
     refuse_input(rt, to, path)?;
-    let paint = if matches.get_flag("json") {
-        None
-    } else {
-        Some(Colours::of(matches).paint(rt))
-    };
     let program = read_program(rt, path)?;
     let missing = missing_of(rt.alloc(), path, allowed_of(matches), &program)?;
-    write_listing(rt, to, path, &program, missing, paint)?;
+    write_listing(rt, to, path, &program, missing, paint_of(rt, matches))?;
     Ok(0)
 }

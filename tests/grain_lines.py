@@ -1,33 +1,32 @@
 #!/usr/bin/env python3
-"""Whether the built grain_list behaves as docs/LISTINGS.md says on a terminal, where its reader leaves, and with little memory.
+"""Whether `grain lines` behaves as docs/LISTINGS.md says on a terminal, as a stream, where its reader leaves, and with little memory.
 
-    python3 tests/grain_list.py LIST
+    python3 tests/grain_lines.py GRAIN
 
-LIST is the built program. tests/command/grain_list.txt has what a transcript can show. It ends with status 1 at the first thing
-that isn't so.
+GRAIN is the built command. tests/command/lines.txt has what a transcript can show. It ends with status 1 at the first thing that
+isn't so.
 """
 import os
 import pathlib
 import pty
-import re
 import resource
+import select
 import subprocess
 import sys
 
-TOP = pathlib.Path(__file__).resolve().parent.parent
 CASE = b"verify 7fff 0213 0:2:8\n"
 ESCAPE = b"\x1b["
 
 
 def expect(is_so, what):
     if not is_so:
-        sys.exit(f"grain_list: {what}")
+        sys.exit(f"grain lines: {what}")
 
 
 def run(program, *arguments, given=CASE, **more):
     """The status, and what came on standard output and standard error."""
     streams = {"stdout": subprocess.PIPE, "stderr": subprocess.PIPE, **more}
-    ran = subprocess.run([program, *arguments], input=given, timeout=60, **streams)
+    ran = subprocess.run([program, "lines", *arguments], input=given, timeout=60, **streams)
     return ran.returncode, ran.stdout, ran.stderr
 
 
@@ -36,7 +35,7 @@ def on_terminal(program, *arguments, **environment):
     ours, theirs = pty.openpty()
     inherited = {name: value for name, value in os.environ.items() if name not in ("NO_COLOR", "TERM")}
     ran = subprocess.Popen(
-        [program, *arguments], stdin=subprocess.PIPE, stdout=theirs, env={**inherited, "TERM": "xterm", **environment}
+        [program, "lines", *arguments], stdin=subprocess.PIPE, stdout=theirs, env={**inherited, "TERM": "xterm", **environment}
     )
     os.close(theirs)
     ran.stdin.write(CASE)
@@ -52,9 +51,21 @@ def on_terminal(program, *arguments, **environment):
     return written
 
 
-def check_version(program):
-    version = re.search(r'^version = "(.*)"$', (TOP / "hosts/rust/Cargo.toml").read_text(), re.M)[1]
-    expect(run(program, "--version") == (0, f"grain_list {version}\n".encode(), b""), f"--version isn't {version}")
+def check_stream(program):
+    """A listing is there once its line is, while the input goes on."""
+    for word, end in (("--color=never", b"Return\n\n"), ("--json", b"}\n")):
+        ran = subprocess.Popen([program, "lines", word], stdin=subprocess.PIPE, stdout=subprocess.PIPE)
+        for _ in range(3):
+            ran.stdin.write(CASE)
+            ran.stdin.flush()
+            listing = b""
+            while not listing.endswith(end):
+                ready, _, _ = select.select([ran.stdout], [], [], 60)
+                piece = os.read(ran.stdout.fileno(), 65536) if ready else b""
+                expect(piece, f"no listing comes before the input ends with {word}: {listing}")
+                listing += piece
+        ran.stdin.close()
+        expect((ran.stdout.read(), ran.wait(60)) == (b"", 0), f"the end of a stream with {word}")
 
 
 def check_terminal(program):
@@ -81,20 +92,20 @@ def check_failures(program):
     os.close(reading)
     status, _, errors = run(program, stdout=writing)
     os.close(writing)
-    expect((status, errors) == (4, b""), f"a reader that left: {status}, {errors}")
+    expect((status, errors) == (1, b""), f"a reader that left: {status}, {errors}")
     for long_line in (b"#" * (100 << 20), b"code " + b"02" * (10 << 20)):
         status, _, errors = run(program, given=long_line, preexec_fn=little_memory)
-        expect((status, errors) == (5, b"error: out of memory\n"), f"little memory: {status}, {errors}")
+        expect((status, errors) == (1, b"error: out of memory\n"), f"little memory: {status}, {errors}")
 
 
 def main():
     if len(sys.argv) != 2:
         sys.exit(__doc__)
     program = pathlib.Path(sys.argv[1]).resolve()
-    check_version(program)
+    check_stream(program)
     check_terminal(program)
     check_failures(program)
-    print("grain_list: well")
+    print("grain lines: well")
 
 
 if __name__ == "__main__":
