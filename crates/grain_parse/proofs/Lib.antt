@@ -1,4 +1,5 @@
 -- lemmas
 pub mod Appended
+pub mod DeclaredDepths
 pub mod MadeAssignOps
 pub mod PoolEntries

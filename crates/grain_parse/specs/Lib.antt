@@ -1,4 +1,5 @@
 pub mod Addresses
+pub mod Depths
 pub mod Directives
 pub mod Drafted
 pub mod Entries

@@ -1,5 +1,6 @@
 //! The main chunk and the functions.
-ghost use Rattle.std.specs.Prelude.{◌≡◌, IfOk, MatchOption, OnOk, [], length};
+ghost use Rattle.std.specs.Prelude.{◌≡◌, IfOk, MatchOption, OnOk, [], length, map};
+ghost use Rattle.grain_parse.specs.Depths.{DeclareDepths, max_stack_of};
 ghost use Rattle.grain_parse.specs.Drafted.{KeepsChunks};
 
 use crate::labels::Labels;
@@ -172,11 +173,16 @@ impl Chunks {
 }
 
 /// Has the chunks with these indices declare their depths.
-fn put_depths(stacks: &mut [u16], automatic: &[usize], depths: &[u16]) {
-    for index in automatic {
-        if let (Some(stack), Some(depth)) = (stacks.get_mut(*index), depths.get(*index)) {
-            *stack = *depth;
+fn put_depths(stacks: &mut [u16], automatic: &[usize], depths: &[u16])
+    requires { length depths.now ≡ length stacks.old }
+    ensures { DeclareDepths automatic.now depths.now stacks.old stacks.new }
+{
+    'chosen: for index in automatic {
+        let at = *index;
+        if at >= stacks.len() {
+            continue;
         }
+        stacks[at] = depths[at];
     }
 }
 
@@ -190,12 +196,22 @@ pub(crate) fn stacks_of(
     automatic: &[usize],
     depths: &[u16],
 ) -> Result<Vec<u16>, AllocError>
-    ensures { IfOk result (λ stacks. length stacks.items ≡ length chunks.now) }
+    requires { length depths.now ≡ length chunks.now }
+    ensures { IfOk result (λ stacks.
+        DeclareDepths automatic.now depths.now (map max_stack_of chunks.now) stacks.items) }
+{
+    let mut stacks = declared(alloc, chunks)?;
+    put_depths(&mut stacks, automatic, depths);
+    Ok(stacks)
+}
+
+/// What chunks declare.
+fn declared(alloc: Global, chunks: &[Chunk]) -> Result<Vec<u16>, AllocError>
+    ensures { IfOk result (λ stacks. stacks.items ≡ map max_stack_of chunks.now) }
 {
     let mut stacks = Vec::with_capacity(alloc, chunks.len())?;
     for chunk in chunks {
         stacks.push(chunk.max_stack())?;
     }
-    put_depths(&mut stacks, automatic, depths);
     Ok(stacks)
 }

@@ -3,6 +3,7 @@ ghost use Rattle.std.specs.Prelude.{◌≡◌, ℕ, IfErr, IfOk, List, MatchOpti
 ghost use Rattle.grain.specs.Program.{input_of};
 ghost use Rattle.grain.specs.Tightened.{undeclared};
 ghost use Rattle.grain_needs.specs.Capabilities.{AreLeast};
+ghost use Rattle.grain_parse.specs.Depths.{HasDepths};
 ghost use Rattle.grain_parse.specs.Placed.{IsPlacedError};
 
 use crate::chunks::stacks_of;
@@ -33,6 +34,7 @@ impl Parsed {
         // All else is as it was.
         ensures rest { IfOk result (λ p.
             undeclared p ≡ record (undeclared self.program) { caps = p.caps }) }
+        ensures depths { IfOk result (HasDepths self.automatic.items self.program) }
         ensures caps { IfOk result (λ p. MatchOption self.caps (AreLeast (input_of p) p.caps.0)
             (λ caps. p.caps ≡ self.program.caps)) }
         ensures errors { (texts : List (List ℕ)) → IfErr result (IsPlacedError texts) }
@@ -56,6 +58,7 @@ fn with_depths(
     automatic: &[usize],
 ) -> Result<Program, ParseError>
     ensures rest { IfOk result (λ p. undeclared p ≡ undeclared program) }
+    ensures depths { IfOk result (HasDepths automatic.now program) }
     ensures errors { (texts : List (List ℕ)) → IfErr result (IsPlacedError texts) }
 {
     if automatic.is_empty() {
