@@ -238,15 +238,11 @@ fn tight(mut verified: Verified) -> Verified
 }
 
 /// What a function has except for its chunk.
-pub(crate) fn head_of(emitter: &Emitter, index: usize) -> Result<Head, AllocError> {
+pub(crate) fn head_of(emitter: &Emitter, index: usize) -> Result<Head, CompileError> {
     match emitter.signatures.get(index) {
-        Some(signature) => head_with(emitter.alloc, signature),
-        None => Ok(Head {
-            name: 0,
-            params: Vec::new(emitter.alloc),
-            access: FnAccess::Private,
-            this_type: None,
-        }),
+        Some(signature) => Ok(head_with(emitter.alloc, signature)?),
+        // Each function has a signature, which no clause says. A function under another name would be a wrong program.
+        None => Err(CompileError::new(Site::NONE, Problem::Unsupported(Thing::Function))),
     }
 }
 
