@@ -128,3 +128,14 @@ print(a);
 //= [[2], [], [1, 1]]
 //= [[2], [1, 1]]
 //= [[], [2], [1, 1]]
+//--- a function of arrays is a method
+let x = [1, 2];
+let f = |item| item + 1;
+print(x.map(f));
+//= [2, 3]
+//--- and no function of that array and the closure
+let x = [1, 2];
+let f = |item| item + 1;
+print(map(x, f));
+//! Function not found: map (array, Fn)
+//@ 3:7

@@ -88,3 +88,6 @@ print(f.call(21));
 print(x);
 //= 42
 //= 1
+//--- a method of a closure in brackets
+print((|x| { x }).curry(1).call());
+//= 1

@@ -103,3 +103,8 @@ print(x.a.pop().len());
 print(x.a);
 //= 2
 //= ["abc"]
+//--- a local variable on which a function is called may be its first argument
+fn f(x, y) { x - y }
+let x = 5;
+print(x.f(2));
+//= 3
