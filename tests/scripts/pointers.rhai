@@ -196,7 +196,7 @@ call(Fn("read"));
 //! this
 //@ 4:1
 //--- names of the compiler's own
-fn check(name) { try { Fn(name); print("a pointer"); } catch (e) { print(e); } }
+fn check(name) { try { Fn(name); print("a pointer"); } catch (e) { print(e.message); } }
 let f = |x| x + 1;
 check(f.name);
 check("len$");

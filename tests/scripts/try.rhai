@@ -111,3 +111,26 @@ f.call(4);
 f.call(5);
 print(seen);
 //= [8, 10]
+//--- a fault that isn't thrown is caught as an object map
+let a = [1];
+try { a[5] } catch (e) {
+    print(type_of(e));
+    print(e.error);
+    print(e.message);
+    print(`${e.line}:${e.position}`);
+}
+//= map
+//= ErrorArrayBounds
+//= Index out of bounds: 5
+//= 2:9
+//--- the place of a fault in a function
+fn half(x) { x / 0 }
+try { half(1); } catch (e) { print(`${e.error} ${e.line}:${e.position}`); }
+//= ErrorArithmetic 1:16
+//--- a fault that is caught and thrown on is the object map
+try {
+    try { no_such(1); } catch (e) { throw e; }
+} catch (e) {
+    print(e.message);
+}
+//= Function not found: no_such (i64)

@@ -160,8 +160,8 @@ let m = #{ a: #{ b: [7, 8] } }; m.a.b[1]
 //= 3!
 //--- try { 1 / 0 } catch (e) { 7 }
 try { 1 / 0 } catch (e) { 7 }
-//--- let r = 0; try { r = 1 / 0; } catch (e) { r = e; } r
-let r = 0; try { r = 1 / 0; } catch (e) { r = e; } r
+//--- let r = 0; try { r = 1 / 0; } catch (e) { r = e.message; } r
+let r = 0; try { r = 1 / 0; } catch (e) { r = e.message; } r
 //= Division by zero
 //--- let r = 0; try { throw 42; } catch (e) { r = e + 1; } r
 let r = 0; try { throw 42; } catch (e) { r = e + 1; } r

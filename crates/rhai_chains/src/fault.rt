@@ -17,7 +17,8 @@ pub struct Fault {
     pub cause: Cause,
     /// The address of the operation that failed, in the chunk where the fault came.
     pub at: usize,
-    /// Where the step of a chain that failed is in the source text. It is none if no step failed, or positions were stripped.
+    /// Where the operation, or the step of a chain, that failed is in the source text. It is none of a value that was thrown, or if
+    /// positions were stripped.
     pub step: Position,
 }
 
@@ -62,6 +63,18 @@ pub struct OpError {
 }
 
 impl OpError {
+    /// The error with the position of its step, or else of the operation at an address of the program.
+    #[must_use]
+    pub fn located(self, program: &Program, at: usize) -> OpError {
+        let OpError { cause, step } = self;
+        let step = if step.is_none() {
+            program.position(at)
+        } else {
+            step
+        };
+        OpError { cause, step }
+    }
+
     /// A step of a chain fails so.
     #[cold]
     pub fn of_step(step: &Step, cause: Cause) -> OpError {

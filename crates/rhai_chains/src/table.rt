@@ -133,6 +133,29 @@ impl NameTable {
         self.function(program, self.index_of(name)?, params)
     }
 
+    /// Whether the program has a function of this name and number of parameters that is declared for this type of receiver, or for
+    /// none.
+    #[must_use]
+    pub fn is_declared(&self, this_type: Option<&str>, name: &str, params: usize) -> bool {
+        let this_type = match this_type {
+            Some(this_type) => match self.index_of(this_type) {
+                Some(index) => Some(index),
+                None => return false,
+            },
+            None => None,
+        };
+        let Some(index) = self.index_of(name) else {
+            return false;
+        };
+        match self.meanings.get(index as usize) {
+            Some(meaning) => meaning
+                .declared
+                .iter()
+                .any(|declared| declared.params == params && declared.this_type == this_type),
+            None => false,
+        }
+    }
+
     /// Whether the program has functions of this name with this number of parameters.
     #[must_use]
     pub fn has_functions(&self, name: u32, params: usize) -> bool {
@@ -157,13 +180,30 @@ impl NameTable {
     ) -> Option<usize>
         ensures { IfSome result (λ index. index < length program.now.functions) }
     {
+        match self.typed(program, name, params, receiver) {
+            Some(index) => Some(index),
+            None => self.function(program, name, params),
+        }
+    }
+
+    /// The function of the program that has this name and number of parameters, and is declared for the type of this value.
+    #[must_use]
+    pub fn typed(
+        &self,
+        program: &Program,
+        name: u32,
+        params: usize,
+        receiver: &Value,
+    ) -> Option<usize>
+        ensures { IfSome result (λ index. index < length program.now.functions) }
+    {
         let meaning = self.meanings.get(name as usize)?;
         for declared in &meaning.declared {
             if declared.params == params && is_for(program, declared.this_type, receiver) {
                 return within(program, declared.index);
             }
         }
-        self.function(program, name, params)
+        None
     }
 }
 

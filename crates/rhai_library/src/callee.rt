@@ -15,6 +15,10 @@ pub enum Callee {
     Print,
     /// `debug`, which the world does.
     Debug,
+    /// `is_def_fn`, which the script's own table answers.
+    IsDefFn,
+    /// `is_def_var`, which the script's own variables answer.
+    IsDefVar,
     /// An operator that a function pointer may name, by its number.
     Operator(u8),
 }
@@ -26,6 +30,8 @@ impl Callee {
         match name {
             "print" => Some(Callee::Print),
             "debug" => Some(Callee::Debug),
+            "is_def_fn" => Some(Callee::IsDefFn),
+            "is_def_var" => Some(Callee::IsDefVar),
             name => match Function::named(name) {
                 Some(function) => Some(Callee::Library(function)),
                 None => operator_named(name),

@@ -35,8 +35,8 @@ impl<W: World + Drop> Script<W> {
                 None => return Err(OpError::from(Cause::Unsupported)),
             },
         };
-        if self.may_be_method(steps.last())
-            && let Some(reply) = self.method(program, chain, operands)?
+        if let Some(called) = method_at_end(chain)
+            && let Some(reply) = self.method(program, chain, called, operands)?
         {
             return Ok(reply);
         }
@@ -83,7 +83,7 @@ impl<W: World + Drop> Script<W> {
         let Tail::Assign { op } = &chain.tail else {
             return self.variables.plain_item(*slot, place);
         };
-        let Value::Array(list) = self.variables.slot_mut(*slot)? else {
+        let Value::Array(list) = self.variables.value_mut(*slot)? else {
             return None;
         };
         let new = assigned(program, *op, list.items().get(place)?, operands.last()?)?;
@@ -122,10 +122,10 @@ impl<W: World + Drop> Script<W> {
         Some(Value::Unit)
     }
 
-    /// The place of the value of a local variable or of `this`, a share itself if it is one.
+    /// The place of the value of a local variable or of `this`.
     fn plain_root(&mut self, root: &Root) -> Option<&mut Value> {
         match root {
-            Root::Local { slot, .. } => self.variables.slot_mut(*slot),
+            Root::Local { slot, .. } => self.variables.value_mut(*slot),
             Root::This { .. } => self.variables.this_mut(),
             Root::Named { .. } | Root::Temporary => None,
         }
@@ -169,15 +169,10 @@ impl<W: World + Drop> Script<W> {
         Ok(Some(placed(step, read(&context, value, step, operands))?))
     }
 
-    /// Whether a function of the script or of the world may be what this step calls.
-    fn may_be_method(&self, step: Option<&Step>) -> bool {
-        match step {
-            Some(Step::Method { name, argc, .. }) => {
-                self.table.callee(*name).is_none()
-                    || self.table.has_functions(*name, *argc as usize)
-            }
-            _ => false,
-        }
+    /// Whether a function of the script or of the world may be what this method calls.
+    fn may_be_method(&self, called: Called) -> bool {
+        self.table.callee(called.name).is_none()
+            || self.table.has_functions(called.name, called.count)
     }
 
     /// Begins the function of the script that the last step of a chain calls on the value before it, if it has one.
@@ -185,14 +180,18 @@ impl<W: World + Drop> Script<W> {
         &mut self,
         program: &Program,
         chain: &Chain,
+        called: Called,
         operands: &mut [Value],
     ) -> Result<Option<Reply<Value>>, OpError>
         ensures { IfOk result (λ given. IfSome given (NamesFunction program.now)) }
     {
-        let Some(called) = method_at_end(chain) else {
-            return Ok(None);
-        };
         let path = chain.steps.get(..called.path).unwrap_or_default();
+        if let Some(held) = self.held_at(program, &chain.root, path, called, operands)? {
+            return self.call_held(program, chain, called, held, operands);
+        }
+        if !self.may_be_method(called) {
+            return Ok(None);
+        }
         let Some((value, lent)) = self.receiver(program, &chain.root, path, operands)? else {
             return Ok(Some(Reply::Value(Value::Unit)));
         };
@@ -313,7 +312,7 @@ impl<W: World + Drop> Script<W> {
 
     /// The value on which a method is called, taken out of its variable if it is a part that goes back there. `None` if a step
     /// before it ends the chain early.
-    fn receiver(
+    pub(crate) fn receiver(
         &mut self,
         program: &Program,
         root: &Root,
@@ -355,14 +354,14 @@ fn unlent(value: Option<Value>) -> Option<(Value, Option<Lent>)> {
 
 /// A method that a chain calls at its end.
 #[derive(Clone, Copy)]
-struct Called {
-    name: u32,
+pub(crate) struct Called {
+    pub(crate) name: u32,
     /// How many arguments it has.
-    count: usize,
+    pub(crate) count: usize,
     /// Where the first of them lies among the operands.
-    first: usize,
+    pub(crate) first: usize,
     /// How many steps lead to its receiver.
-    path: usize,
+    pub(crate) path: usize,
 }
 
 /// The method that the chain calls at its end, if it does.
@@ -387,7 +386,7 @@ fn method_at_end(chain: &Chain) -> Option<Called> {
 }
 
 /// The variable at which a chain begins.
-fn variable_of(root: &Root) -> Result<Variable, Cause> {
+pub(crate) fn variable_of(root: &Root) -> Result<Variable, Cause> {
     match root {
         Root::Local { slot, .. } => Ok(Variable::Local(*slot)),
         Root::Named { name, .. } => Ok(Variable::Named(*name)),

@@ -42,7 +42,8 @@ impl<W: World + Drop> Script<W> {
         }
     }
 
-    /// Calls a function by its name: one of the program's, of the library, or of the world.
+    /// Calls a function by its name: one of the program's, of the library, or of the world. One that is declared for the type of the
+    /// first argument has that as `this`.
     pub(crate) fn call(
         &mut self,
         program: &Program,
@@ -53,6 +54,18 @@ impl<W: World + Drop> Script<W> {
     {
         if let Some(function) = self.table.function(program, name, operands.len()) {
             self.variables.begin(operands, self.at)?;
+            return Ok(Reply::Call { function });
+        }
+        if self.table.callee(name).is_none()
+            && let Some((value, arguments)) = operands.split_first_mut()
+            && let Some(function) = self.table.typed(program, name, arguments.len(), value)
+        {
+            let this = This {
+                value: value.take(),
+                lent: None,
+            };
+            self.variables
+                .begin_bound(&[], arguments, Some(this), self.at)?;
             return Ok(Reply::Call { function });
         }
         self.call_outside(program, name, operands)
@@ -77,9 +90,11 @@ impl<W: World + Drop> Script<W> {
         }
     }
 
-    /// Does `print` or `debug` of one value.
+    /// Does `print` or `debug` of one value, or of none.
     fn written(&mut self, callee: Callee, operands: &[Value]) -> Result<Option<Value>, Cause> {
         match (callee, operands) {
+            (Callee::Print, []) => self.world.print("")?,
+            (Callee::Debug, []) => self.world.debug("")?,
             (Callee::Print, [value]) => {
                 let line = format!(in self.alloc; "{value}")?;
                 self.world.print(line.as_str())?;
@@ -279,13 +294,15 @@ impl<W: World + Drop> Script<W> {
                 None => Ok(None),
             },
             Some(Callee::Operator(index)) => operate_at(self.alloc, index, arguments),
+            Some(Callee::IsDefFn) => Ok(self.is_def_fn(arguments)),
+            Some(Callee::IsDefVar) => Ok(self.is_def_var(arguments)),
             Some(callee) => self.written(callee, arguments),
             None => Ok(None),
         }
     }
 
     /// Takes the value of a variable out for a call on it.
-    fn lent(&mut self, program: &Program, variable: Variable) -> Result<This, Cause> {
+    pub(crate) fn lent(&mut self, program: &Program, variable: Variable) -> Result<This, Cause> {
         let value = self.variable_mut(program, variable)?.take();
         let path = Vec::new(self.alloc);
         Ok(This {
@@ -352,6 +369,9 @@ impl<W: World + Drop> Script<W> {
         let Some(arguments) = operands.get_mut(skipped..) else {
             return Err(Cause::Unsupported);
         };
+        if let Some(reply) = self.held_by_variable(program, name, variable, arguments)? {
+            return Ok(reply);
+        }
         let count = arguments.len().saturating_add(1);
         if let Some(function) = self.table.function(program, name, count) {
             let first = [self.variable_mut(program, variable)?.clone()?];
@@ -362,13 +382,14 @@ impl<W: World + Drop> Script<W> {
         self.call_in_place(program, name, variable, arguments)
     }
 
-    /// Calls a function of the library on the value of a variable, in place, or another one on a copy.
+    /// Calls a function of the library on the value of a variable, in place, one that is declared for its type, or another one on a
+    /// copy.
     fn call_in_place(
         &mut self,
         program: &Program,
         name: u32,
         variable: Variable,
-        arguments: &[Value],
+        arguments: &mut [Value],
     ) -> Result<Reply<Value>, Cause>
         ensures { IfOk result (NamesFunction program.now) }
     {
@@ -384,6 +405,13 @@ impl<W: World + Drop> Script<W> {
             if let Some(value) = given? {
                 return Ok(Reply::Value(value));
             }
+        }
+        let value = self.variable(program, variable)?;
+        if let Some(function) = self.table.typed(program, name, arguments.len(), value) {
+            let this = self.lent(program, variable)?;
+            self.variables
+                .begin_bound(&[], arguments, Some(this), self.at)?;
+            return Ok(Reply::Call { function });
         }
         let count = arguments.len().saturating_add(1);
         let text = program.names().get(name).unwrap_or("");

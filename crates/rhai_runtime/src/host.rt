@@ -18,7 +18,15 @@ impl<W: World + Drop> Script<W> {
     fn fault(&mut self, request: &Request<'_>, cause: Cause) -> Fault
         ensures { result.at ≡ request.now.at }
     {
-        self.failed(request.at, OpError::from(cause))
+        self.failed_in(request, OpError::from(cause))
+    }
+
+    /// The fault of an operation that fails so. Its position is looked up here, since a `catch` may bind it and has no program.
+    #[cold]
+    fn failed_in(&mut self, request: &Request<'_>, error: OpError) -> Fault
+        ensures { result.at ≡ request.now.at }
+    {
+        self.failed(request.at, error.located(request.program, request.at))
     }
 
     /// The fault of the operation at an address, which fails so.
@@ -158,7 +166,7 @@ impl<W: World + Drop> Host for Script<W> {
         self.at = request.at;
         match self.reply(request, operands) {
             Ok(reply) => Ok(reply),
-            Err(error) => Err(self.failed(request.at, error)),
+            Err(error) => Err(self.failed_in(request, error)),
         }
     }
 
@@ -252,7 +260,7 @@ impl<W: World + Drop> Host for Script<W> {
     fn thrown(&mut self, request: &Request<'_>, value: Value) -> Fault
         ensures { result.at ≡ request.now.at }
     {
-        self.fault(request, Cause::Thrown(value))
+        self.failed(request.at, OpError::from(Cause::Thrown(value)))
     }
 
     fn caught(&mut self, fault: Fault, name: Option<u32>) -> Result<(), Fault> {
@@ -260,18 +268,11 @@ impl<W: World + Drop> Host for Script<W> {
             return Err(fault);
         }
         self.end_fault();
-        let Fault { cause, at, .. } = fault;
-        let value = match cause {
-            Cause::Thrown(value) => Ok(value),
-            cause => match format!(in self.alloc; "{cause}") {
-                Ok(text) => Value::text(self.alloc, text),
-                Err(error) => Err(error),
-            },
-        };
+        let Fault { cause, at, step } = fault;
         let Some(name) = name else {
             return Ok(());
         };
-        let bound = match value {
+        let bound = match cause.into_value(self.alloc, step) {
             Ok(value) => self.set_variable(name, value),
             Err(error) => Err(error),
         };

@@ -11,6 +11,8 @@ mod access;
 mod answering;
 mod asked;
 mod calls;
+mod defined;
+mod held;
 mod host;
 mod named;
 mod runs;

@@ -7,6 +7,7 @@ use crate::asked::{Asked, OuterRun};
 use crate::top::Top;
 use crate::world::World;
 use grain::Program;
+use grain_base::Token;
 use grain_code::Op;
 use grain_machine::{Reply, Request};
 use rhai_chains::{Context, NameTable, OpError, assign_to};
@@ -19,7 +20,7 @@ use std::rc::Rc;
 ///
 /// docs/LANGUAGE.md says what scripts can do. These are this host's own:
 ///
-/// - A caught fault is bound to a named variable: what was thrown, or the text of the cause.
+/// - A caught fault is bound to a named variable: what was thrown, or an object map of the cause ([`Cause::into_value`]).
 /// - A limit that was reached, memory that ran out and a fault of the world are caught by no handler.
 /// - Values are shared until they are changed. A variable that closures share is one place for all of them.
 /// - It does nothing with modules and syntax that wasn't compiled.
@@ -154,7 +155,7 @@ impl<W: World + Drop> Script<W> {
             return None;
         }
         match request.op {
-            Op::LoadLocal(slot) => self.variables.slot(*slot)?.plain(),
+            Op::LoadLocal(slot) => self.variables.value(*slot)?.plain(),
             Op::Const(index) => self.table.constant(*index)?.plain(),
             Op::Call {
                 op: Some(token),
@@ -212,7 +213,7 @@ impl<W: World + Drop> Script<W> {
         let Some(value) = operands.first() else {
             return false;
         };
-        match self.variables.slot_mut(slot) {
+        match self.variables.value_mut(slot) {
             Some(place) => assign_integer(&assign_op.op_assign, place, value),
             None => false,
         }
@@ -223,7 +224,7 @@ impl<W: World + Drop> Script<W> {
         let Some(value) = operands.first() else {
             return false;
         };
-        match self.variables.slot_mut(slot) {
+        match self.variables.value_mut(slot) {
             Some(place) => place.replace_plain(value),
             None => false,
         }
@@ -261,7 +262,12 @@ impl<W: World + Drop> Script<W> {
                 op: Some(token),
                 ..
             } => return Ok(self.operator(program, *name, *token, operands)?),
-            Op::Call { name, op: None, .. } => return Ok(self.call(program, *name, operands)?),
+            Op::Call { name, op: None, .. } => {
+                if let Some(reply) = self.held_by_first(program, *name, operands)? {
+                    return Ok(reply);
+                }
+                return Ok(self.call(program, *name, operands)?);
+            }
             Op::Chain(index) => match program.chains().get(*index as usize) {
                 Some(chain) => return self.chain(program, chain, operands),
                 None => return Err(OpError::from(Cause::Unsupported)),
@@ -452,13 +458,24 @@ fn made(alloc: Global, op: &Op, operands: &mut [Value]) -> Result<Value, Cause> 
     }
 }
 
-/// The pointer that a script makes of a name. A name with `$` is one of the compiler's own, such as that of a closure, and no
-/// function that a script finds.
+/// The pointer that a script makes of a name, which is one that a function or an operator can have. A name with `$` is one of the
+/// compiler's own, such as that of a closure, and no function that a script finds.
 fn pointer_to(alloc: Global, name: &str) -> Result<Value, Cause> {
-    if name.find("$").is_some() {
+    if !is_name(name) && Token::of_syntax(name).is_none() {
         return Err(Cause::no_function(alloc, name, None, &[]));
     }
     Value::pointer(alloc, name)
+}
+
+/// Whether a text is letters, digits and underscores, with no digit first and at least one letter.
+fn is_name(text: &str) -> bool {
+    let begins_well = match text.chars().next() {
+        Some(first) => first == '_' || first.is_ascii_alphabetic(),
+        None => false,
+    };
+    begins_well
+        && text.chars().any(|c| c.is_ascii_alphabetic())
+        && text.chars().all(|c| c == '_' || c.is_ascii_alphanumeric())
 }
 
 /// The first operand, taken from its place.

@@ -1,10 +1,12 @@
 //! How values compare.
 
+use crate::text::Text;
 use crate::value::Value;
 use std::cmp::Ordering;
 use std::collections::BTreeMap;
 
-/// Whether two values are of one type and have the same content. It takes time by the size of the smaller one.
+/// Whether two values are of one type and have the same content. A character counts as a text of that character. It takes time by
+/// the size of the smaller one.
 #[cycle(equal)]
 #[must_use]
 pub fn are_equal(left: &Value, right: &Value) -> bool {
@@ -14,6 +16,9 @@ pub fn are_equal(left: &Value, right: &Value) -> bool {
         (Value::Int(x), Value::Int(y)) => x == y,
         (Value::Char(x), Value::Char(y)) => x == y,
         (Value::Text(x), Value::Text(y)) => x.as_str() == y.as_str(),
+        (Value::Text(text), Value::Char(character)) | (Value::Char(character), Value::Text(text)) => {
+            matches!(order_of_character(text, *character), Ordering::Equal)
+        }
         (Value::Range(x), Value::Range(y)) => **x == **y,
         (Value::Array(x), Value::Array(y)) => are_items_equal(&x.items, &y.items),
         (Value::Blob(x), Value::Blob(y)) => x.as_slice() == y.as_slice(),
@@ -53,13 +58,32 @@ fn are_entries_equal(left: &BTreeMap<String, Value>, right: &BTreeMap<String, Va
     true
 }
 
-/// How two values of one type compare, if that type has an order: integers, characters and texts.
+/// How two values of one type compare, if that type has an order: truth values, integers, characters and texts. A character counts
+/// as a text of that character.
 #[must_use]
 pub fn order(left: &Value, right: &Value) -> Option<Ordering> {
     match (left, right) {
+        (Value::Bool(x), Value::Bool(y)) => Some(x.cmp(y)),
         (Value::Int(x), Value::Int(y)) => Some(x.cmp(y)),
         (Value::Char(x), Value::Char(y)) => Some(x.cmp(y)),
         (Value::Text(x), Value::Text(y)) => Some(x.as_str().cmp(y.as_str())),
+        (Value::Text(text), Value::Char(character)) => Some(order_of_character(text, *character)),
+        (Value::Char(character), Value::Text(text)) => {
+            Some(order_of_character(text, *character).reverse())
+        }
         _ => None,
+    }
+}
+
+/// How a text compares with the text of one character.
+fn order_of_character(text: &Text, character: char) -> Ordering {
+    let mut characters = text.as_str().chars();
+    match characters.next() {
+        None => Ordering::Less,
+        Some(first) if first != character => first.cmp(&character),
+        Some(_) => match characters.next() {
+            None => Ordering::Equal,
+            Some(_) => Ordering::Greater,
+        },
     }
 }

@@ -13,6 +13,7 @@
 //! when it ends, so that no value is copied for it.
 #![tactic(auto)]
 
+mod caught;
 mod cause;
 mod compare;
 mod constant;

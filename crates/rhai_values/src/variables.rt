@@ -57,11 +57,24 @@ impl Variables {
         self.locals.get(self.place(slot))
     }
 
-    /// The place of what a slot holds, a share itself if it is one.
+    /// The value of the local variable in a slot, if there is one.
     #[inline(always)]
-    pub fn slot_mut(&mut self, slot: u16) -> Option<&mut Value> {
+    #[must_use]
+    pub fn value(&self, slot: u16) -> Option<&Value> {
+        match self.locals.get(self.place(slot))? {
+            Value::Shared(index) => self.shared.get(*index),
+            value => Some(value),
+        }
+    }
+
+    /// The place of the value of the local variable in a slot, if there is one.
+    #[inline(always)]
+    pub fn value_mut(&mut self, slot: u16) -> Option<&mut Value> {
         let place = self.place(slot);
-        self.locals.get_mut(place)
+        match self.shared_at(place) {
+            Some(index) => self.shared.get_mut(index),
+            None => self.locals.get_mut(place),
+        }
     }
 
     /// What a slot holds, a share itself if it is one.
@@ -80,11 +93,7 @@ impl Variables {
     /// # Errors
     /// As [`raw`](Variables::raw).
     pub fn local(&self, slot: u16) -> Result<&Value, Cause> {
-        match self.locals.get(self.place(slot)) {
-            Some(Value::Shared(index)) => match self.shared.get(*index) {
-                Some(value) => Ok(value),
-                None => Err(self.no_slot(slot)),
-            },
+        match self.value(slot) {
             Some(value) => Ok(value),
             None => Err(self.no_slot(slot)),
         }
@@ -104,6 +113,7 @@ impl Variables {
     }
 
     /// What the local variable at a place shares, if it does.
+    #[inline(always)]
     fn shared_at(&self, place: usize) -> Option<usize> {
         match self.locals.get(place) {
             Some(Value::Shared(index)) => Some(*index),
@@ -129,7 +139,7 @@ impl Variables {
     #[inline(always)]
     #[must_use]
     pub fn plain_item(&self, slot: u16, place: usize) -> Option<Value> {
-        match self.slot(slot)? {
+        match self.value(slot)? {
             Value::Array(list) => list.items().get(place)?.plain(),
             _ => None,
         }

@@ -249,7 +249,7 @@ fn missing_of(
     }
 }
 
-/// The colours of text, or none if the arguments ask for JSON.
+/// The colours of text, or none if the arguments request JSON.
 pub fn paint_of(rt: &HostRuntime, matches: &ArgMatches<'_>) -> Option<Paint> {
     if matches.get_flag("json") {
         None

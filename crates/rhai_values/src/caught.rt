@@ -1,0 +1,67 @@
+//! Faults as scripts catch them.
+
+use crate::cause::Cause;
+use crate::value::{Object, Value};
+use grain_base::Position;
+use std::alloc::{AllocError, Global};
+use std::rc::Rc;
+
+impl Cause {
+    /// What a `catch` binds: the value that the script threw, or an object map with the name that Rhai has for the error as `error`,
+    /// its sentence as `message`, and its `line` and `position` if they are known.
+    ///
+    /// # Errors
+    /// Out of memory.
+    pub fn into_value(self, alloc: Global, place: Position) -> Result<Value, AllocError> {
+        let cause = match self {
+            Cause::Thrown(value) => return Ok(value),
+            cause => cause,
+        };
+        let mut object = Object::new(alloc);
+        put_text(alloc, &mut object, "error", String::from_str(alloc, cause.error_name())?)?;
+        put_text(alloc, &mut object, "message", format!(in alloc; "{cause}")?)?;
+        if let Some(line) = place.line() {
+            put(alloc, &mut object, "line", integer(line))?;
+        }
+        if let Some(column) = place.position() {
+            put(alloc, &mut object, "position", integer(column))?;
+        }
+        Ok(Value::Map(Rc::new(alloc, object)?))
+    }
+
+    /// The name of the variant of Rhai's `EvalAltResult`.
+    fn error_name(&self) -> &'static str {
+        match self {
+            Cause::NoVariable(_) => "ErrorVariableNotFound",
+            Cause::NoFunction(_) => "ErrorFunctionNotFound",
+            Cause::NoProperty(_) => "ErrorPropertyNotFound",
+            Cause::WrongType(_) => "ErrorMismatchDataType",
+            Cause::Overflow | Cause::DivisionByZero => "ErrorArithmetic",
+            Cause::OutOfBounds(_) => "ErrorArrayBounds",
+            Cause::NoThis => "ErrorUnboundThis",
+            Cause::TooDeep => "ErrorStackOverflow",
+            Cause::TooLarge => "ErrorDataTooLarge",
+            Cause::Thrown(_) | Cause::OutOfMemory | Cause::World(_) | Cause::Unsupported => {
+                "ErrorRuntime"
+            }
+        }
+    }
+}
+
+fn put_text(
+    alloc: Global,
+    object: &mut Object,
+    name: &str,
+    text: String,
+) -> Result<(), AllocError> {
+    put(alloc, object, name, Value::text(alloc, text)?)
+}
+
+fn put(alloc: Global, object: &mut Object, name: &str, value: Value) -> Result<(), AllocError> {
+    let _is_new = object.insert(String::from_str(alloc, name)?, value)?;
+    Ok(())
+}
+
+fn integer(number: usize) -> Value {
+    Value::Int(i64::try_from(number).unwrap_or(i64::MAX))
+}
