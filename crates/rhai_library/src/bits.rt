@@ -143,7 +143,9 @@ fn with_bits(number: i64, span: Span, new: i64) -> i64 {
 /// As many bits as the part has, from the lowest on.
 fn mask(span: Span) -> u64 {
     let count = span.end.saturating_sub(span.first);
-    u64::MAX.checked_shr(distance(BITS.saturating_sub(count))).unwrap_or(0)
+    u64::MAX
+        .checked_shr(distance(BITS.saturating_sub(count)))
+        .unwrap_or(0)
 }
 
 fn distance(place: usize) -> u32 {

@@ -1,7 +1,7 @@
 //! Calls by function.
 
 use crate::function::Function;
-use crate::{arrays, json, maps, numbers, scalars, texts};
+use crate::{arrays, maps, numbers, scalars, texts, to_json};
 use rhai_values::{Cause, SizeLimits, Value};
 use std::alloc::Global;
 
@@ -46,7 +46,8 @@ fn of_any(
         (Function::TypeOf, []) => String::from_str(alloc, receiver.type_name())?,
         (Function::ToString, []) => format!(in alloc; "{receiver}")?,
         (Function::ToDebug, []) => format!(in alloc; "{receiver:?}")?,
-        (Function::ToJson, []) if matches!(receiver, Value::Array(_) | Value::Map(_)) => json::text_of(alloc, limits, receiver)?,
+        (Function::ToJson, []) if matches!(receiver, Value::Array(_) | Value::Map(_)) =>
+            to_json::text_of(alloc, limits, receiver)?,
         (Function::Take, []) => return Ok(Some(receiver.take())),
         (Function::Range, [Value::Int(to)]) => {
             return match receiver {

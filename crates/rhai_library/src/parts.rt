@@ -24,11 +24,7 @@ pub(crate) fn call(
 }
 
 /// A copy of a part.
-fn extracted(
-    alloc: Global,
-    items: &[Value],
-    arguments: &[Value],
-) -> Result<Option<Value>, Cause> {
+fn extracted(alloc: Global, items: &[Value], arguments: &[Value]) -> Result<Option<Value>, Cause> {
     let Some(span) = Span::of_or_rest(items.len(), arguments) else {
         return Ok(None);
     };
@@ -86,11 +82,7 @@ fn spliced(
 }
 
 /// Takes the items from an index on out, and gives them.
-fn split(
-    alloc: Global,
-    list: &mut Rc<List>,
-    arguments: &[Value],
-) -> Result<Option<Value>, Cause> {
+fn split(alloc: Global, list: &mut Rc<List>, arguments: &[Value]) -> Result<Option<Value>, Cause> {
     let [Value::Int(index)] = arguments else {
         return Ok(None);
     };

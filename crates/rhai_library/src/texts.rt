@@ -4,7 +4,7 @@ use crate::function::Function;
 use crate::items::character_at;
 use crate::places::{count_of, number_of};
 use crate::text_parts::{self, copied, split_at};
-use crate::{splitting, words};
+use crate::{from_json, splitting, words};
 use rhai_values::{Cause, SizeLimits, Text, Value, place_of};
 use std::alloc::Global;
 use std::rc::Rc;
@@ -18,15 +18,30 @@ pub(crate) fn call(
 ) -> Result<Option<Value>, Cause> {
     match function {
         Function::Chars | Function::Crop | Function::SubString if !arguments.is_empty() => {
-            return text_parts::call(alloc, function, text, arguments);
+            text_parts::call(alloc, function, text, arguments)
         }
-        _ => {}
+        Function::ParseJson if arguments.is_empty() => {
+            Ok(Some(from_json::parsed(alloc, limits, text.as_str())?))
+        }
+        _ => with_arguments(alloc, limits, function, text, arguments),
     }
+}
+
+fn with_arguments(
+    alloc: Global,
+    limits: SizeLimits,
+    function: Function,
+    text: &mut Rc<Text>,
+    arguments: &[Value],
+) -> Result<Option<Value>, Cause> {
     match arguments {
         [] => alone(alloc, function, text),
         [Value::Int(number)] => with_number(alloc, function, text, *number),
+        [Value::Text(other)] => with_text(alloc, function, text, other.as_str()),
         [value] => with_one(alloc, function, text, value),
-        [Value::Int(number), value] => with_number_and(alloc, limits, function, text, *number, value),
+        [Value::Int(number), value] => with_number_and(
+            alloc, limits, function, text, *number, value,
+        ),
         [value, Value::Int(number)] => with_text_and_number(alloc, function, text, value, *number),
         [old, new] => with_two(alloc, limits, function, text, old, new),
         _ => Ok(None),
@@ -40,7 +55,10 @@ fn alone(alloc: Global, function: Function, text: &mut Rc<Text>) -> Result<Optio
         Function::IsEmpty => Value::Bool(text.is_empty()),
         Function::ToUpper => Value::text(alloc, words::upper(alloc, text.as_str())?)?,
         Function::ToLower => Value::text(alloc, words::lower(alloc, text.as_str())?)?,
-        Function::Chars | Function::ToChars => Value::array(alloc, Value::characters(alloc, text.as_str())?)?,
+        Function::Chars | Function::ToChars => Value::array(
+            alloc,
+            Value::characters(alloc, text.as_str())?,
+        )?,
         Function::Split => splitting::split_at_blanks(alloc, text.as_str())?,
         Function::ParseInt => match text.as_str().trim().parse::<i64>() {
             Ok(number) => Value::Int(number),
@@ -195,19 +213,14 @@ fn with_text_and_number(
     let Some(other) = words::spelled(alloc, argument)? else {
         return Ok(None);
     };
-    let (text_str, other) = (text.as_str(), other.as_str());
-    match function {
-        Function::IndexOf => Ok(Some(words::index_from(text, other, number))),
-        Function::Split => {
-            let parts = splitting::split_into(alloc, text_str, other, count_of(number))?;
-            Ok(Some(parts))
-        }
-        Function::SplitRev => {
-            let parts = splitting::split_rev_into(alloc, text_str, other, count_of(number))?;
-            Ok(Some(parts))
-        }
-        _ => Ok(None),
-    }
+    let (other, count) = (other.as_str(), count_of(number));
+    let found = match function {
+        Function::IndexOf => words::index_from(text, other, number),
+        Function::Split => splitting::split_into(alloc, text.as_str(), other, count)?,
+        Function::SplitRev => splitting::split_rev_into(alloc, text.as_str(), other, count)?,
+        _ => return Ok(None),
+    };
+    Ok(Some(found))
 }
 
 fn with_two(
@@ -221,8 +234,10 @@ fn with_two(
     let Function::Replace = function else {
         return Ok(None);
     };
-    let (Some(old), Some(new)) = (words::spelled(alloc, first)?, words::spelled(alloc, second)?)
-    else {
+    let (Some(old), Some(new)) = (
+        words::spelled(alloc, first)?,
+        words::spelled(alloc, second)?,
+    ) else {
         return Ok(None);
     };
     replace(alloc, limits, text, old.as_str(), new.as_str())?;
@@ -238,9 +253,7 @@ fn replace(
     new: &str,
 ) -> Result<(), Cause> {
     let longest = text.len().saturating_add(1).saturating_mul(new.len());
-    if longest > limits.size
-        && count_matches(text.as_str(), old) > limits.size / new.len().max(1)
-    {
+    if longest > limits.size && count_matches(text.as_str(), old) > limits.size / new.len().max(1) {
         return Err(Cause::TooLarge);
     }
     let replaced = words::replaced(alloc, text.as_str(), old, new)?;
@@ -257,12 +270,7 @@ fn count_matches(text: &str, part: &str) -> usize {
 }
 
 /// Appends the whole padding until the text has at least this many characters. An empty one fills nothing.
-fn padded(
-    limits: SizeLimits,
-    text: &mut Rc<Text>,
-    len: usize,
-    padding: &str,
-) -> Result<(), Cause> {
+fn padded(limits: SizeLimits, text: &mut Rc<Text>, len: usize, padding: &str) -> Result<(), Cause> {
     let width = padding.chars().count();
     if width == 0 {
         return Ok(());
