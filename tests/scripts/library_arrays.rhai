@@ -132,14 +132,6 @@ s.pad(1000000, 'x');
 a.join(s)
 //! Size of data too large
 //@ 5:3
-//--- arrays have no `splice`
-[1, 2].splice(0, 1, [3])
-//! Function not found: splice
-//@ 1:8
-//--- arrays have no `drain`
-[1, 2].drain(0, 1)
-//! Function not found: drain
-//@ 1:8
 //--- sorting by a function keeps the order of equal items
 let a = [[1, 1], [0, 2], [1, 2], [0, 1]];
 a.sort(|x, y| x[0] - y[0]);
