@@ -132,14 +132,6 @@ s.pad(1000000, 'x');
 a.join(s)
 //! Size of data too large
 //@ 5:3
-//--- arrays have no `splice`
-[1, 2].splice(0, 1, [3])
-//! Function not found: splice
-//@ 1:8
-//--- arrays have no `drain`
-[1, 2].drain(0, 1)
-//! Function not found: drain
-//@ 1:8
 //--- sorting by a function keeps the order of equal items
 let a = [[1, 1], [0, 2], [1, 2], [0, 1]];
 a.sort(|x, y| x[0] - y[0]);
@@ -156,3 +148,101 @@ let a = [1];
 loop { a.push(a); }
 //! Size of data too large
 //@ 2
+//--- extract a range
+let x = [1, 2, 3, 4, 5];
+print([x.extract(1..3), x.extract(1..=3), x.extract(-3..2), x.extract(4..99), x.extract(9..12)]);
+print(x);
+//= [[2, 3], [2, 3, 4], [1, 2], [5], []]
+//= [1, 2, 3, 4, 5]
+//--- splice
+let x = [1, 2, 3, 4];
+x.splice(1, 2, [9, 9, 9]);
+print(x);
+x.splice(-1, 1, []);
+print(x);
+x.splice(1, 0, ["a"]);
+print(x);
+x.splice(99, 3, ["end"]);
+print(x);
+x.splice(0..=1, [0]);
+print(x);
+x.splice(1..4, ["b"]);
+print(x);
+//= [1, 9, 9, 9, 4]
+//= [1, 9, 9, 9]
+//= [1, "a", 9, 9, 9]
+//= [1, "a", 9, 9, 9, "end"]
+//= [0, 9, 9, 9, "end"]
+//= [0, "b", "end"]
+//--- splice into itself
+let x = [1, 2];
+x.splice(1, 0, x);
+print(x);
+//= [1, 1, 2, 2]
+//--- splice wants an array
+let x = [1, 2];
+x.splice(1, 0, 7)
+//! Function not found
+//--- split
+let x = [1, 2, 3, 4];
+let y = x.split(1);
+print([x, y]);
+let z = y.split(-1);
+print([y, z]);
+print([y.split(9), y, y.split(0), y]);
+//= [[1], [2, 3, 4]]
+//= [[2, 3], [4]]
+//= [[], [2, 3], [2, 3], []]
+//--- drain a part
+let x = [1, 2, 3, 4, 5];
+let y = x.drain(1, 2);
+print([x, y]);
+print([x.drain(-1, 9), x]);
+print([x.drain(0..1), x, x.drain(5..9), x, x.drain(0, -1), x]);
+//= [[1, 4, 5], [2, 3]]
+//= [[5], [1, 4]]
+//= [[1], [4], [], [4], [], [4]]
+//--- retain a part
+let x = [1, 2, 3, 4, 5];
+let y = x.retain(1, 3);
+print([x, y]);
+print([x.retain(-1, 1), x]);
+print([x.retain(0, 0), x]);
+//= [[2, 3, 4], [1, 5]]
+//= [[2, 3], [4]]
+//= [[4], []]
+//--- index_of from a start
+let x = [1, 2, 3, 2];
+print([x.index_of(2), x.index_of(2, 2), x.index_of(1, 1), x.index_of(2, -1), x.index_of(2, 9)]);
+//= [1, 3, -1, 3, -1]
+//--- sorted copies, and descending
+let x = [3, 1, 2];
+print([x.order(), x.order_desc(), x]);
+x.sort_desc();
+print(x);
+let t = ["b", "a"];
+print([t.order(), order_desc(['a', 'c', 'b'])]);
+//= [[1, 2, 3], [3, 2, 1], [3, 1, 2]]
+//= [3, 2, 1]
+//= [["a", "b"], ['c', 'b', 'a']]
+//--- truth values in order
+let x = [true, false, true];
+x.sort();
+print(x);
+x.sort_desc();
+print(x);
+//= [false, true, true]
+//= [true, true, false]
+//--- an array of one item is in order
+let x = [#{}];
+x.sort();
+print(x);
+//= [#{}]
+//--- values of two types have no order
+let x = [true, 1];
+x.sort();
+//! Data type incorrect
+//--- an array as JSON
+let x = [1, true, (), "a\"b\\c\n", 'x', [], #{}, [[2]], 1..3];
+print(x.to_json());
+//= [1,true,null,"a\"b\\c\n","x",[],{},[[2]],"1..3"]

@@ -69,3 +69,87 @@ print((true).to_string());
 //= 'c'
 //= ["x"]
 //= true
+//--- bits that are read and set
+let x = 5;
+x.set_bit(1, true);
+print(x);
+print([x.get_bit(2), get_bit(x, 3), x.get_bit(-1), (-1).get_bit(63)]);
+x.set_bit(0, false);
+x.set_bit(-1, true);
+print(x < 0);
+x.set_bit(63, false);
+print(x);
+//= 7
+//= [true, false, false, true]
+//= true
+//= 6
+//--- several bits
+let x = 0b10110100;
+print([x.get_bits(2, 3), x.get_bits(2..5), x.get_bits(2..=4), x.get_bits(0, 64), x.get_bits(4, 0)]);
+print([(-1).get_bits(60, 99), (-1).get_bits(-4, 4), (-8).get_bits(0, 64)]);
+x.set_bits(0, 4, 0b1111);
+print(x.to_binary());
+x.set_bits(4..=7, 0);
+print(x.to_binary());
+x.set_bits(62..64, -1);
+x.set_bits(1..1, -1);
+print(x.to_hex());
+x.set_bits(0, 64, -3);
+print(x);
+//= [5, 5, 5, 180, 0]
+//= [15, 15, -8]
+//= 10111111
+//= 1111
+//= c00000000000000f
+//= -3
+//--- bits by indices
+let x = 0b10110100;
+print([x[2], x[3], x[2..5], x[2..=4], x[0..64], x[5..5]]);
+let y = 0;
+y[2] = true;
+print(y);
+y[2] = false;
+y[4..8] = 0b111010;
+print(y);
+let m = #{ n: [0] };
+m.n[0][-1] = true;
+print(m.n[0] < 0);
+//= [true, false, 5, 5, 180, 0]
+//= 4
+//= 160
+//= true
+//--- no bit lies there
+let x = 0;
+x.set_bit(64, true)
+//! Index out of bounds: 64
+//--- no bits lie there
+let x = 0;
+x[60..=64]
+//! Index out of bounds: 64
+//--- no bits lie below the lowest
+let x = 0;
+x[-1..3]
+//! Index out of bounds: -1
+//--- a bit is a truth value
+let x = 0;
+x[0] = 1;
+//! Data type incorrect: expecting a truth value
+//--- a value is taken
+let x = 42;
+let y = take(x);
+print([y, x]);
+let a = [1, 2];
+let b = a.take();
+print([a, b]);
+let m = #{ a: "t" };
+print(m.a.take());
+print(m);
+//= [42, ()]
+//= [(), [1, 2]]
+//= t
+//= #{"a": ()}
+//--- closures have no name of their own
+fn foo() { 1 }
+let f = |x| x + 1;
+print([Fn("foo").is_anonymous, f.is_anonymous, f.is_anonymous()]);
+//= [false, true, true]

@@ -168,3 +168,137 @@ print(s + s.get(1) + s.len);
 //--- an index behind the characters of several bytes
 "éé"[2]
 //! Index out of bounds: 2
+//--- parts by ranges
+let s = "hello, world";
+print(s.sub_string(1..3));
+print(s.sub_string(1..=3));
+print(s.sub_string(-5..4));
+print("[" + s.sub_string(40..50) + s.sub_string(3..1) + "]");
+s.crop(7..=100);
+print(s);
+s.crop(1..3);
+print(s);
+let n = "naïve";
+print(n.sub_string(2..=3));
+//= el
+//= ell
+//= hell
+//= []
+//= world
+//= or
+//= ïv
+//--- characters of a part
+let s = "hello";
+print(s.chars(1, 3));
+print(s.chars(1..3));
+print(s.chars(1..=3));
+print(s.chars(3));
+print(s.chars(-2, 1));
+print(s.chars(9, 2));
+print(s.to_chars());
+//= ['e', 'l', 'l']
+//= ['e', 'l']
+//= ['e', 'l', 'l']
+//= ['l', 'o']
+//= ['l']
+//= []
+//= ['h', 'e', 'l', 'l', 'o']
+//--- index_of from a start
+let s = "hello, world";
+print([s.index_of('l', 4), s.index_of("o", 5), s.index_of("o", 4), s.index_of('h', 1)]);
+print([s.index_of("l", -2), s.index_of('o', -100), s.index_of("d", 100), "".index_of("", 0)]);
+let n = "naïve text";
+print([n.index_of('e', 5), n.index_of("ve", 3)]);
+//= [10, 8, 4, -1]
+//= [10, 4, -1, -1]
+//= [7, 3]
+//--- replace characters
+let s = "hello";
+s.replace('l', 'L');
+print(s);
+s.replace('L', "<>");
+print(s);
+s.replace("<>", '_');
+print(s);
+//= heLLo
+//= he<><>o
+//= he__o
+//--- pad with a text, as a whole
+let s = "ab";
+s.pad(6, "xyz");
+print(s);
+s.pad(3, "!");
+print(s);
+s.pad(10, "");
+print(s);
+s.pad(-1, "x");
+print(s);
+//= abxyzxyz
+//= abxyzxyz
+//= abxyzxyz
+//= abxyzxyz
+//--- pad has a limit
+let s = "ab";
+s.pad(1000000000000, "xy");
+//! Size of data too large
+//--- split at an index
+print("hello".split(2));
+print("hello".split(-1));
+print("hello".split(0));
+print("hello".split(9));
+print("hello".split(-9));
+//= ["he", "llo"]
+//= ["hell", "o"]
+//= ["", "hello"]
+//= ["hello", ""]
+//= ["", "hello"]
+//--- split into a number of parts
+let s = "a,b,c,d";
+print(s.split(",", 2));
+print(s.split(',', 9));
+print(s.split(",", 0));
+print(s.split_rev(","));
+print(s.split_rev(','));
+print(s.split_rev(",", 2));
+print(s.split_rev(',', 0));
+//= ["a", "b,c,d"]
+//= ["a", "b", "c", "d"]
+//= ["a,b,c,d"]
+//= ["d", "c", "b", "a"]
+//= ["d", "c", "b", "a"]
+//= ["d", "a,b,c"]
+//= ["a,b,c,d"]
+//--- the empty separator is found at both ends
+print("ab".split(""));
+print("ab".split_rev(""));
+print("".split(""));
+//= ["", "a", "b", ""]
+//= ["", "b", "a", ""]
+//= ["", ""]
+//--- the lesser and the greater of two
+print([min("b", "a"), max("b", "a"), min("abc", "abd")]);
+print([min('b', 'a'), max('b', 'a')]);
+//= ["a", "b", "abc"]
+//= ['a', 'b']
+//--- texts without others
+print("hello" - "l");
+print("hello" - 'l');
+print("hello" - "");
+print("hello" - "xyz");
+let s = "banana";
+s -= "an";
+print(s);
+s -= 'a';
+print(s);
+//= heo
+//= heo
+//= hello
+//= hello
+//= ba
+//= b
+//--- a text without an integer
+"a1" - 1
+//! Function not found
+//--- pad and split take no truth values
+"a".split(true)
+//! Function not found

@@ -4,7 +4,7 @@ use crate::fault::OpError;
 use crate::table::NameTable;
 use grain::Program;
 use grain_pools::{Step, StepFlags};
-use rhai_library::{Callee, Function, call, item_of, item_place, operate, set_character};
+use rhai_library::{Callee, Function, assign_item, call, item_of, item_place, operate};
 use rhai_values::{Cause, Key, List, Object, SizeLimits, Value};
 use std::alloc::Global;
 use std::rc::Rc;
@@ -337,7 +337,7 @@ fn assign(
         let _ = Rc::make_mut(list)?.replace(place, assigned);
         return Ok(());
     }
-    set_character(context.alloc, context.limits, value, index, assigned)
+    assign_item(context.alloc, context.limits, value, index, assigned)
 }
 
 /// What the method of a step gives, which may change the value in place.

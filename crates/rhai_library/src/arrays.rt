@@ -1,7 +1,9 @@
 //! Functions of arrays.
 
 use crate::function::Function;
+use crate::parts::{self, part};
 use crate::places::{count_of, number_of, start_of};
+use crate::sorting::{ascending, descending};
 use rhai_values::{Cause, List, SizeLimits, Value, are_equal, place_of};
 use std::alloc::Global;
 use std::rc::Rc;
@@ -13,12 +15,17 @@ pub(crate) fn call(
     list: &mut Rc<List>,
     arguments: &[Value],
 ) -> Result<Option<Value>, Cause> {
+    if let Some(value) = parts::call(alloc, function, list, arguments)? {
+        return Ok(Some(value));
+    }
     match arguments {
         [] => alone(alloc, function, list),
         [argument] => with_one(alloc, limits, function, list, argument),
-        [Value::Int(index), argument] => with_place(
-            alloc, limits, function, list, *index, argument,
-        ),
+        [value, Value::Int(start)] if function == Function::IndexOf => {
+            let first = start_of(list.len(), *start);
+            Ok(Some(found(position(list.items(), value, first))))
+        }
+        [Value::Int(index), argument] => with_place(limits, function, list, *index, argument),
         _ => Ok(None),
     }
 }
@@ -27,7 +34,10 @@ fn alone(alloc: Global, function: Function, list: &mut Rc<List>) -> Result<Optio
     match function {
         Function::Len => return Ok(Some(Value::Int(number_of(list.len())))),
         Function::IsEmpty => return Ok(Some(Value::Bool(list.is_empty()))),
-        Function::Sort => *list = Rc::new(alloc, List::of(sorted(alloc, list.items())?))?,
+        Function::Sort => *list = ascending(alloc, list)?,
+        Function::SortDesc => *list = descending(alloc, list)?,
+        Function::Order => return Ok(Some(Value::Array(ascending(alloc, list)?))),
+        Function::OrderDesc => return Ok(Some(Value::Array(descending(alloc, list)?))),
         Function::Dedup => *list = Rc::new(alloc, List::of(deduplicated(alloc, list.items())?))?,
         Function::Reverse => Rc::make_mut(list)?.reverse(),
         Function::Clear => Rc::make_mut(list)?.truncate(0),
@@ -91,19 +101,12 @@ fn with_number(
             *list = Rc::new(alloc, List::of(part(alloc, list.items(), first, len)?))?;
             Value::Unit
         }
-        Function::Extract => {
-            Value::array(
-                alloc,
-                part(alloc, list.items(), start_of(len, number), len)?,
-            )?
-        }
         _ => return Ok(None),
     };
     Ok(Some(value))
 }
 
 fn with_place(
-    alloc: Global,
     limits: SizeLimits,
     function: Function,
     list: &mut Rc<List>,
@@ -127,11 +130,6 @@ fn with_place(
             padded(limits, list, count_of(index), value)?;
             Ok(Some(Value::Unit))
         }
-        (Function::Extract, Value::Int(count)) => {
-            let first = start_of(len, index);
-            let last = first.saturating_add(count_of(*count)).min(len);
-            Ok(Some(Value::array(alloc, part(alloc, list.items(), first, last)?)?))
-        }
         _ => Ok(None),
     }
 }
@@ -152,15 +150,6 @@ fn found(place: Option<usize>) -> Value {
         Some(place) => Value::Int(number_of(place)),
         None => Value::Int(-1),
     }
-}
-
-/// Copies of the items from one place up to another.
-fn part(alloc: Global, items: &[Value], first: usize, end: usize) -> Result<Vec<Value>, Cause> {
-    let mut part = Vec::new(alloc);
-    for place in first..end.min(items.len()) {
-        part.push(items[place].clone()?)?;
-    }
-    Ok(part)
 }
 
 /// Appends the value until there are this many items.
@@ -218,63 +207,4 @@ fn deduplicated(alloc: Global, items: &[Value]) -> Result<Vec<Value>, Cause> {
         }
     }
     Ok(kept)
-}
-
-/// The items in ascending order: integers, characters or texts, all of one type.
-fn sorted(alloc: Global, items: &[Value]) -> Result<Vec<Value>, Cause> {
-    match items.first() {
-        None => Ok(Vec::new(alloc)),
-        Some(Value::Int(_)) => sorted_integers(alloc, items),
-        Some(Value::Char(_)) => sorted_characters(alloc, items),
-        Some(Value::Text(_)) => sorted_texts(alloc, items),
-        Some(_) => Err(Cause::WrongType("integers, characters or texts to sort")),
-    }
-}
-
-fn sorted_integers(alloc: Global, items: &[Value]) -> Result<Vec<Value>, Cause> {
-    let mut numbers = Vec::new(alloc);
-    for item in items {
-        let Value::Int(number) = item else {
-            return Err(Cause::WrongType("integers alone to sort"));
-        };
-        numbers.push(*number)?;
-    }
-    numbers.sort()?;
-    let mut values = Vec::new(alloc);
-    for number in numbers {
-        values.push(Value::Int(number))?;
-    }
-    Ok(values)
-}
-
-fn sorted_characters(alloc: Global, items: &[Value]) -> Result<Vec<Value>, Cause> {
-    let mut characters = Vec::new(alloc);
-    for item in items {
-        let Value::Char(character) = item else {
-            return Err(Cause::WrongType("characters alone to sort"));
-        };
-        characters.push(*character)?;
-    }
-    characters.sort()?;
-    let mut values = Vec::new(alloc);
-    for character in characters {
-        values.push(Value::Char(character))?;
-    }
-    Ok(values)
-}
-
-fn sorted_texts(alloc: Global, items: &[Value]) -> Result<Vec<Value>, Cause> {
-    let mut texts = Vec::new(alloc);
-    for item in items {
-        let Value::Text(text) = item else {
-            return Err(Cause::WrongType("texts alone to sort"));
-        };
-        texts.push(text.clone()?)?;
-    }
-    texts.sort()?;
-    let mut values = Vec::new(alloc);
-    for text in texts {
-        values.push(Value::Text(text))?;
-    }
-    Ok(values)
 }

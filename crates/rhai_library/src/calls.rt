@@ -1,7 +1,7 @@
 //! Calls by function.
 
 use crate::function::Function;
-use crate::{arrays, maps, numbers, scalars, texts};
+use crate::{arrays, maps, numbers, scalars, texts, to_json};
 use rhai_values::{Cause, SizeLimits, Value};
 use std::alloc::Global;
 
@@ -19,15 +19,15 @@ pub fn call(
     receiver: &mut Value,
     arguments: &[Value],
 ) -> Result<Option<Value>, Cause> {
-    if let Some(value) = of_any(alloc, function, receiver, arguments)? {
+    if let Some(value) = of_any(alloc, limits, function, receiver, arguments)? {
         return Ok(Some(value));
     }
     match receiver {
         Value::Text(text) => texts::call(alloc, limits, function, text, arguments),
         Value::Array(list) => arrays::call(alloc, limits, function, list, arguments),
         Value::Map(object) => maps::call(alloc, function, object, arguments),
-        Value::Int(number) => numbers::call(alloc, function, *number, arguments),
-        Value::Char(character) => scalars::of_character(alloc, function, *character, arguments),
+        Value::Int(number) => numbers::call(alloc, function, number, arguments),
+        Value::Char(character) => Ok(scalars::of_character(function, *character, arguments)),
         Value::Range(range) => Ok(scalars::of_range(function, range, arguments)),
         Value::Pointer(pointer) => scalars::of_pointer(alloc, function, pointer, arguments),
         _ => Ok(None),
@@ -37,14 +37,18 @@ pub fn call(
 /// What every value has.
 fn of_any(
     alloc: Global,
+    limits: SizeLimits,
     function: Function,
-    receiver: &Value,
+    receiver: &mut Value,
     arguments: &[Value],
 ) -> Result<Option<Value>, Cause> {
     let text = match (function, arguments) {
         (Function::TypeOf, []) => String::from_str(alloc, receiver.type_name())?,
         (Function::ToString, []) => format!(in alloc; "{receiver}")?,
         (Function::ToDebug, []) => format!(in alloc; "{receiver:?}")?,
+        (Function::ToJson, []) if matches!(receiver, Value::Array(_) | Value::Map(_)) =>
+            to_json::text_of(alloc, limits, receiver)?,
+        (Function::Take, []) => return Ok(Some(receiver.take())),
         (Function::Range, [Value::Int(to)]) => {
             return match receiver {
                 Value::Int(from) => Ok(Some(Value::range(alloc, *from, *to, false)?)),

@@ -1,5 +1,6 @@
 //! Items of values by their indices: of arrays, the characters of texts, and the bits of integers.
 
+use crate::bits;
 use crate::calls::call;
 use crate::function::Function;
 use rhai_values::{Cause, SizeLimits, Text, Value, place_of};
@@ -19,24 +20,20 @@ pub fn item_place(len: usize, index: Option<&Value>) -> Result<usize, Cause> {
     }
 }
 
-/// The character of a text, or the bit of an integer, at an index.
+/// The character of a text, or the bit of an integer, at an index; or the bits of an integer that a range says.
 ///
 /// # Errors
 /// As [`item_place`], and [`Cause::WrongType`] for a value of another type.
 pub fn item_of(value: &Value, index: &Value) -> Result<Value, Cause> {
-    let Value::Int(index) = index else {
-        return Err(Cause::WrongType("an integer as index"));
-    };
-    match value {
-        Value::Text(text) => match character_at(text, *index) {
+    match (value, index) {
+        (Value::Text(text), Value::Int(index)) => match character_at(text, *index) {
             Some(character) => Ok(Value::Char(character)),
             None => Err(Cause::OutOfBounds(*index)),
         },
-        Value::Int(bits) => match place_of(64, *index) {
-            Some(place) => Ok(Value::Bool(bit_at(*bits, place))),
-            None => Err(Cause::OutOfBounds(*index)),
-        },
-        _ => Err(Cause::WrongType("a value that has items")),
+        (Value::Int(number), Value::Int(index)) => bits::bit_at(*number, *index),
+        (Value::Int(number), Value::Range(range)) => bits::bits_in(*number, range),
+        (_, Value::Int(_)) => Err(Cause::WrongType("a value that has items")),
+        _ => Err(Cause::WrongType("an integer as index")),
     }
 }
 
@@ -45,27 +42,30 @@ pub(crate) fn character_at(text: &Text, index: i64) -> Option<char> {
     text.character(place_of(text.count(), index)?)
 }
 
-fn bit_at(bits: i64, place: usize) -> bool {
-    let distance = u32::try_from(place).unwrap_or(0);
-    bits.wrapping_shr(distance) & 1 == 1
-}
-
-/// Replaces the character of a text at an index. Behind the last one it changes nothing.
+/// Replaces the character of a text, or the bit of an integer, at an index; or the bits of an integer that a range says. Behind the
+/// last character it changes nothing.
 ///
 /// # Errors
-/// [`Cause::WrongType`] if the value is no text, the index no integer, or what is assigned no character; or out of memory.
-pub fn set_character(
+/// [`Cause::WrongType`] if the value has no such items, or what is assigned is none; [`Cause::OutOfBounds`] if no bit lies there; or
+/// out of memory.
+pub fn assign_item(
     alloc: Global,
     limits: SizeLimits,
-    text: &mut Value,
+    value: &mut Value,
     index: Option<&Value>,
     assigned: Value,
 ) -> Result<(), Cause> {
-    let (Value::Text(_), Some(index)) = (&*text, index) else {
+    let Some(index) = index else {
+        return Err(Cause::WrongType("a value that has items"));
+    };
+    if let Value::Int(number) = value {
+        return bits::assign(number, index, &assigned);
+    }
+    let Value::Text(_) = &*value else {
         return Err(Cause::WrongType("a value that has items"));
     };
     let arguments = [index.clone()?, assigned];
-    match call(alloc, limits, Function::Set, text, &arguments)? {
+    match call(alloc, limits, Function::Set, value, &arguments)? {
         Some(_) => Ok(()),
         None => Err(Cause::WrongType("a character")),
     }

@@ -20,6 +20,10 @@ pub(crate) fn call(
                 Rc::make_mut(object)?.extend(other)?;
                 Ok(Some(Value::Unit))
             }
+            Function::FillWith => {
+                fill(Rc::make_mut(object)?, other)?;
+                Ok(Some(Value::Unit))
+            }
             _ => Ok(None),
         },
         [Value::Text(name), value] => match function {
@@ -71,6 +75,16 @@ fn of_name(
         _ => return Ok(None),
     };
     Ok(Some(value))
+}
+
+/// Gives copies of those values of the other one whose names have none yet.
+fn fill(object: &mut Object, other: &Object) -> Result<(), Cause> {
+    for (name, value) in other.entries() {
+        if object.get(name.as_str()).is_none() {
+            let _ = object.insert(name.clone()?, value.clone()?)?;
+        }
+    }
+    Ok(())
 }
 
 fn keys(alloc: Global, object: &Object) -> Result<Value, Cause> {

@@ -1,5 +1,6 @@
 //! Functions of integers.
 
+use crate::bits;
 use crate::function::Function;
 use rhai_values::{Cause, Value};
 use std::alloc::Global;
@@ -7,12 +8,15 @@ use std::alloc::Global;
 pub(crate) fn call(
     alloc: Global,
     function: Function,
-    number: i64,
+    number: &mut i64,
     arguments: &[Value],
 ) -> Result<Option<Value>, Cause> {
+    if let Some(value) = bits::call(function, number, arguments)? {
+        return Ok(Some(value));
+    }
     match arguments {
-        [] => alone(alloc, function, number),
-        [Value::Int(other)] => Ok(with_other(function, number, *other)),
+        [] => alone(alloc, function, *number),
+        [Value::Int(other)] => Ok(with_other(function, *number, *other)),
         _ => Ok(None),
     }
 }

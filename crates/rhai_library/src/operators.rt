@@ -1,5 +1,6 @@
 //! Operators by their tokens.
 
+use crate::words;
 use grain_base::Token;
 use rhai_values::{Cause, Text, Value, are_equal, order};
 use std::alloc::Global;
@@ -26,6 +27,7 @@ pub fn operate(
         },
         _ => match operator {
             Token::Plus | Token::PlusAssign => extended(alloc, operator, left, right),
+            Token::Minus | Token::MinusAssign => reduced(alloc, left, right),
             _ => Ok(compared(operator, left, right)),
         },
     }
@@ -203,6 +205,18 @@ fn extended(
             Ok(None)
         }
     }
+}
+
+/// What `-` gives of a text: that text without the other one, or without a character, wherever it is found.
+fn reduced(alloc: Global, left: &Value, right: &Value) -> Result<Option<Value>, Cause> {
+    let Value::Text(text) = left else {
+        return Ok(None);
+    };
+    let Some(part) = words::spelled(alloc, right)? else {
+        return Ok(None);
+    };
+    let rest = words::replaced(alloc, text.as_str(), part.as_str(), "")?;
+    Ok(Some(Value::text(alloc, rest)?))
 }
 
 /// Appends what a value shows to a text.

@@ -4,25 +4,26 @@ use crate::function::Function;
 use rhai_values::{Cause, Interval, Pointer, Value};
 use std::alloc::Global;
 
+/// How the names of closures begin.
+const CLOSURE: &'static str = "anon$";
+
 pub(crate) fn of_character(
-    alloc: Global,
     function: Function,
     character: char,
     arguments: &[Value],
-) -> Result<Option<Value>, Cause> {
-    let [] = arguments else {
-        return Ok(None);
-    };
-    match function {
-        Function::ToInt => Ok(Some(Value::Int(i64::from(u32::from(character))))),
-        Function::ToUpper => changed(alloc, character, character.to_uppercase().next()),
-        Function::ToLower => changed(alloc, character, character.to_lowercase().next()),
-        _ => Ok(None),
+) -> Option<Value> {
+    match (function, arguments) {
+        (Function::ToInt, []) => Some(Value::Int(i64::from(u32::from(character)))),
+        (Function::ToUpper, []) => Some(changed(character, character.to_uppercase().next())),
+        (Function::ToLower, []) => Some(changed(character, character.to_lowercase().next())),
+        (Function::Min, [Value::Char(other)]) => Some(Value::Char(character.min(*other))),
+        (Function::Max, [Value::Char(other)]) => Some(Value::Char(character.max(*other))),
+        _ => None,
     }
 }
 
-fn changed(_: Global, character: char, other: Option<char>) -> Result<Option<Value>, Cause> {
-    Ok(Some(Value::Char(other.unwrap_or(character))))
+fn changed(character: char, other: Option<char>) -> Value {
+    Value::Char(other.unwrap_or(character))
 }
 
 pub(crate) fn of_range(function: Function, range: &Interval, arguments: &[Value]) -> Option<Value> {
@@ -47,6 +48,9 @@ pub(crate) fn of_pointer(
         (Function::Name, []) => {
             let name = String::from_str(alloc, pointer.name())?;
             Ok(Some(Value::text(alloc, name)?))
+        }
+        (Function::IsAnonymous, []) => {
+            Ok(Some(Value::Bool(pointer.name().starts_with(CLOSURE))))
         }
         _ => Ok(None),
     }

@@ -2,8 +2,9 @@
 
 use crate::function::Function;
 use crate::items::character_at;
-use crate::places::{count_of, number_of, start_of};
-use crate::words;
+use crate::places::{count_of, number_of};
+use crate::text_parts::{self, copied, split_at};
+use crate::{from_json, splitting, words};
 use rhai_values::{Cause, SizeLimits, Text, Value, place_of};
 use std::alloc::Global;
 use std::rc::Rc;
@@ -15,24 +16,34 @@ pub(crate) fn call(
     text: &mut Rc<Text>,
     arguments: &[Value],
 ) -> Result<Option<Value>, Cause> {
+    match function {
+        Function::Chars | Function::Crop | Function::SubString if !arguments.is_empty() => {
+            text_parts::call(alloc, function, text, arguments)
+        }
+        Function::ParseJson if arguments.is_empty() => {
+            Ok(Some(from_json::parsed(alloc, limits, text.as_str())?))
+        }
+        _ => with_arguments(alloc, limits, function, text, arguments),
+    }
+}
+
+fn with_arguments(
+    alloc: Global,
+    limits: SizeLimits,
+    function: Function,
+    text: &mut Rc<Text>,
+    arguments: &[Value],
+) -> Result<Option<Value>, Cause> {
     match arguments {
         [] => alone(alloc, function, text),
-        [Value::Text(other)] => with_text(alloc, function, text, other.as_str()),
-        [Value::Char(character)] => {
-            let mut other = String::new(alloc);
-            other.push(*character)?;
-            with_text(alloc, function, text, other.as_str())
-        }
         [Value::Int(number)] => with_number(alloc, function, text, *number),
-        [value] => match function {
-            Function::Append => {
-                let shown = format!(in alloc; "{value}")?;
-                Rc::make_mut(text)?.push_str(shown.as_str())?;
-                Ok(Some(Value::Unit))
-            }
-            _ => Ok(None),
-        },
-        [first, second] => with_two(alloc, limits, function, text, first, second),
+        [Value::Text(other)] => with_text(alloc, function, text, other.as_str()),
+        [value] => with_one(alloc, function, text, value),
+        [Value::Int(number), value] => with_number_and(
+            alloc, limits, function, text, *number, value,
+        ),
+        [value, Value::Int(number)] => with_text_and_number(alloc, function, text, value, *number),
+        [old, new] => with_two(alloc, limits, function, text, old, new),
         _ => Ok(None),
     }
 }
@@ -44,8 +55,11 @@ fn alone(alloc: Global, function: Function, text: &mut Rc<Text>) -> Result<Optio
         Function::IsEmpty => Value::Bool(text.is_empty()),
         Function::ToUpper => Value::text(alloc, words::upper(alloc, text.as_str())?)?,
         Function::ToLower => Value::text(alloc, words::lower(alloc, text.as_str())?)?,
-        Function::Chars => Value::array(alloc, Value::characters(alloc, text.as_str())?)?,
-        Function::Split => words::split_at_blanks(alloc, text.as_str())?,
+        Function::Chars | Function::ToChars => Value::array(
+            alloc,
+            Value::characters(alloc, text.as_str())?,
+        )?,
+        Function::Split => splitting::split_at_blanks(alloc, text.as_str())?,
         Function::ParseInt => match text.as_str().trim().parse::<i64>() {
             Ok(number) => Value::Int(number),
             Err(_) => return Err(Cause::WrongType("the digits of an integer")),
@@ -72,6 +86,25 @@ fn changed(alloc: Global, function: Function, text: &mut Rc<Text>) -> Result<Opt
     Ok(Some(Value::Unit))
 }
 
+fn with_one(
+    alloc: Global,
+    function: Function,
+    text: &mut Rc<Text>,
+    argument: &Value,
+) -> Result<Option<Value>, Cause> {
+    if let Some(other) = words::spelled(alloc, argument)? {
+        return with_text(alloc, function, text, other.as_str());
+    }
+    match function {
+        Function::Append => {
+            let shown = format!(in alloc; "{argument}")?;
+            Rc::make_mut(text)?.push_str(shown.as_str())?;
+            Ok(Some(Value::Unit))
+        }
+        _ => Ok(None),
+    }
+}
+
 fn with_text(
     alloc: Global,
     function: Function,
@@ -83,7 +116,10 @@ fn with_text(
         Function::StartsWith => Value::Bool(text.as_str().starts_with(other)),
         Function::EndsWith => Value::Bool(text.as_str().ends_with(other)),
         Function::IndexOf => words::index_of(text, other),
-        Function::Split => words::split(alloc, text.as_str(), other)?,
+        Function::Split => splitting::split(alloc, text.as_str(), other)?,
+        Function::SplitRev => splitting::split_rev(alloc, text.as_str(), other)?,
+        Function::Min => Value::Text(copied(alloc, text.as_str().min(other))?),
+        Function::Max => Value::Text(copied(alloc, text.as_str().max(other))?),
         Function::Append => {
             Rc::make_mut(text)?.push_str(other)?;
             Value::Unit
@@ -104,20 +140,12 @@ fn with_number(
     text: &mut Rc<Text>,
     number: i64,
 ) -> Result<Option<Value>, Cause> {
-    let len = text.count();
     let value = match function {
         Function::Get => match character_at(text, number) {
             Some(character) => Value::Char(character),
             None => Value::Unit,
         },
-        Function::SubString => {
-            let part = text.part(start_of(len, number), len);
-            Value::text(alloc, String::from_str(alloc, part)?)?
-        }
-        Function::Crop => {
-            *text = copied(alloc, text.part(start_of(len, number), len))?;
-            Value::Unit
-        }
+        Function::Split => split_at(alloc, text, number)?,
         Function::Truncate => {
             *text = copied(alloc, text.part(0, count_of(number)))?;
             Value::Unit
@@ -147,6 +175,54 @@ fn parsed(text: &str, radix: i64) -> Result<Option<Value>, Cause> {
     }
 }
 
+fn with_number_and(
+    alloc: Global,
+    limits: SizeLimits,
+    function: Function,
+    text: &mut Rc<Text>,
+    number: i64,
+    argument: &Value,
+) -> Result<Option<Value>, Cause> {
+    match (function, argument) {
+        (Function::Pad, argument) => {
+            let Some(padding) = words::spelled(alloc, argument)? else {
+                return Ok(None);
+            };
+            padded(limits, text, count_of(number), padding.as_str())?;
+            Ok(Some(Value::Unit))
+        }
+        (Function::Set, Value::Char(character)) => {
+            // Behind the last character it changes nothing.
+            if let Some(place) = place_of(text.count(), number) {
+                let new = words::with_character(alloc, text, place, *character)?;
+                *text = Rc::new(alloc, new)?;
+            }
+            Ok(Some(Value::Unit))
+        }
+        _ => Ok(None),
+    }
+}
+
+fn with_text_and_number(
+    alloc: Global,
+    function: Function,
+    text: &Text,
+    argument: &Value,
+    number: i64,
+) -> Result<Option<Value>, Cause> {
+    let Some(other) = words::spelled(alloc, argument)? else {
+        return Ok(None);
+    };
+    let (other, count) = (other.as_str(), count_of(number));
+    let found = match function {
+        Function::IndexOf => words::index_from(text, other, number),
+        Function::Split => splitting::split_into(alloc, text.as_str(), other, count)?,
+        Function::SplitRev => splitting::split_rev_into(alloc, text.as_str(), other, count)?,
+        _ => return Ok(None),
+    };
+    Ok(Some(found))
+}
+
 fn with_two(
     alloc: Global,
     limits: SizeLimits,
@@ -155,42 +231,34 @@ fn with_two(
     first: &Value,
     second: &Value,
 ) -> Result<Option<Value>, Cause> {
-    match (function, first, second) {
-        (Function::SubString, Value::Int(start), Value::Int(count)) => {
-            let part = counted_part(text, *start, *count);
-            Ok(Some(Value::text(alloc, String::from_str(alloc, part)?)?))
-        }
-        (Function::Crop, Value::Int(start), Value::Int(count)) => {
-            *text = copied(alloc, counted_part(text, *start, *count))?;
-            Ok(Some(Value::Unit))
-        }
-        (Function::Replace, Value::Text(old), Value::Text(new)) => {
-            let longest = text.len().saturating_add(1).saturating_mul(new.len());
-            if longest > limits.size
-                && count_matches(text.as_str(), old.as_str()) > limits.size / new.len().max(1)
-            {
-                return Err(Cause::TooLarge);
-            }
-            let replaced = words::replaced(alloc, text.as_str(), old.as_str(), new.as_str())?;
-            *text = Rc::new(alloc, Text::of(replaced))?;
-            Ok(Some(Value::Unit))
-        }
-        (Function::Pad, Value::Int(len), Value::Char(character)) => {
-            padded(limits, text, count_of(*len), *character)?;
-            Ok(Some(Value::Unit))
-        }
-        (Function::Set, Value::Int(index), Value::Char(character)) => {
-            // Behind the last character it changes nothing.
-            if let Some(place) = place_of(text.count(), *index) {
-                *text = Rc::new(
-                    alloc,
-                    words::with_character(alloc, text, place, *character)?,
-                )?;
-            }
-            Ok(Some(Value::Unit))
-        }
-        _ => Ok(None),
+    let Function::Replace = function else {
+        return Ok(None);
+    };
+    let (Some(old), Some(new)) = (
+        words::spelled(alloc, first)?,
+        words::spelled(alloc, second)?,
+    ) else {
+        return Ok(None);
+    };
+    replace(alloc, limits, text, old.as_str(), new.as_str())?;
+    Ok(Some(Value::Unit))
+}
+
+/// Replaces one text by another wherever it is found, if the limits allow what that makes.
+fn replace(
+    alloc: Global,
+    limits: SizeLimits,
+    text: &mut Rc<Text>,
+    old: &str,
+    new: &str,
+) -> Result<(), Cause> {
+    let longest = text.len().saturating_add(1).saturating_mul(new.len());
+    if longest > limits.size && count_matches(text.as_str(), old) > limits.size / new.len().max(1) {
+        return Err(Cause::TooLarge);
     }
+    let replaced = words::replaced(alloc, text.as_str(), old, new)?;
+    *text = Rc::new(alloc, Text::of(replaced))?;
+    Ok(())
 }
 
 /// How often a text is found in another, one behind the other. The empty text is found before each character and at the end.
@@ -201,31 +269,19 @@ fn count_matches(text: &str, part: &str) -> usize {
     text.split(part).count().saturating_sub(1)
 }
 
-/// A number of characters of the text, from an index on.
-fn counted_part(text: &Text, start: i64, count: i64) -> &str {
-    let first = start_of(text.count(), start);
-    text.part(first, first.saturating_add(count_of(count)))
-}
-
-/// A text of its own with these characters.
-fn copied(alloc: Global, text: &str) -> Result<Rc<Text>, Cause> {
-    Ok(Rc::new(alloc, Text::of(String::from_str(alloc, text)?))?)
-}
-
-/// Appends the character until the text has this many.
-fn padded(
-    limits: SizeLimits,
-    text: &mut Rc<Text>,
-    len: usize,
-    character: char,
-) -> Result<(), Cause> {
-    let more = len.saturating_sub(text.count());
-    if more > limits.size {
+/// Appends the whole padding until the text has at least this many characters. An empty one fills nothing.
+fn padded(limits: SizeLimits, text: &mut Rc<Text>, len: usize, padding: &str) -> Result<(), Cause> {
+    let width = padding.chars().count();
+    if width == 0 {
+        return Ok(());
+    }
+    let times = len.saturating_sub(text.count()).div_ceil(width);
+    if times.saturating_mul(padding.len()) > limits.size {
         return Err(Cause::TooLarge);
     }
     let text = Rc::make_mut(text)?;
-    for _ in 0..more {
-        text.push(character)?;
+    for _ in 0..times {
+        text.push_str(padding)?;
     }
     Ok(())
 }

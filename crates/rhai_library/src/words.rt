@@ -1,6 +1,6 @@
 //! New texts out of old ones.
 
-use crate::places::number_of;
+use crate::places::{number_of, start_of};
 use rhai_values::{Cause, Text, Value};
 use std::alloc::Global;
 
@@ -45,31 +45,46 @@ pub(crate) fn with_character(
 /// How many characters are before the first place where the other text is found; -1 if it isn't.
 pub(crate) fn index_of(text: &Text, other: &str) -> Value {
     match text.as_str().split_once(other) {
-        Some((before, _)) if text.is_ascii() => Value::Int(number_of(before.len())),
-        Some((before, _)) => Value::Int(number_of(before.chars().count())),
+        Some((before, _)) => Value::Int(number_of(count_of(text, before))),
         None => Value::Int(-1),
     }
 }
 
-/// The parts between the places where the separator is found.
-pub(crate) fn split(alloc: Global, text: &str, separator: &str) -> Result<Value, Cause> {
-    let mut parts = Vec::new(alloc);
-    if separator.is_empty() {
-        return Ok(Value::array(alloc, Value::characters(alloc, text)?)?);
+/// As [`index_of`], of the places from an index on. Behind the last character nothing is found.
+pub(crate) fn index_from(text: &Text, other: &str, start: i64) -> Value {
+    let first = start_of(text.count(), start);
+    if first >= text.count() {
+        return Value::Int(-1);
     }
-    for part in text.split(separator) {
-        parts.push(Value::text(alloc, String::from_str(alloc, part)?)?)?;
+    let (_, rest) = text.split_at(first);
+    match rest.split_once(other) {
+        Some((before, _)) => {
+            let place = first.saturating_add(count_of(text, before));
+            Value::Int(number_of(place))
+        }
+        None => Value::Int(-1),
     }
-    Ok(Value::array(alloc, parts)?)
 }
 
-/// The words that blanks separate.
-pub(crate) fn split_at_blanks(alloc: Global, text: &str) -> Result<Value, Cause> {
-    let mut parts = Vec::new(alloc);
-    for part in text.split_whitespace() {
-        parts.push(Value::text(alloc, String::from_str(alloc, part)?)?)?;
+/// How many characters a part of a text has.
+fn count_of(text: &Text, part: &str) -> usize {
+    if text.is_ascii() {
+        return part.len();
     }
-    Ok(Value::array(alloc, parts)?)
+    part.chars().count()
+}
+
+/// The text that a text is or a character makes. `None` of other values.
+pub(crate) fn spelled(alloc: Global, value: &Value) -> Result<Option<String>, Cause> {
+    match value {
+        Value::Text(text) => Ok(Some(String::from_str(alloc, text.as_str())?)),
+        Value::Char(character) => {
+            let mut text = String::new(alloc);
+            text.push(*character)?;
+            Ok(Some(text))
+        }
+        _ => Ok(None),
+    }
 }
 
 /// The text with one part replaced by another wherever it is found. An empty part is found nowhere.

@@ -1,0 +1,65 @@
+//! Values out of JSON.
+
+use json::{Error, Scratch};
+use rhai_values::{Cause, Object, SizeLimits, Value};
+use std::alloc::Global;
+use std::rc::Rc;
+
+/// The value that a JSON text says: null is unit, and of values with one name the last one stays.
+///
+/// # Errors
+/// [`Cause::WrongType`] if the text is no JSON, or a number in it no integer; [`Cause::TooLarge`] if the limits don't allow
+/// the value; or out of memory.
+pub(crate) fn parsed(alloc: Global, limits: SizeLimits, text: &str) -> Result<Value, Cause> {
+    let mut scratch = Scratch::new(alloc);
+    match json::Value::parse(alloc, text, &mut scratch) {
+        Ok(parsed) => within(limits, value_of(alloc, &parsed)?),
+        Err(Error::OutOfMemory) => Err(Cause::OutOfMemory),
+        Err(_) => Err(Cause::WrongType("JSON")),
+    }
+}
+
+fn within(limits: SizeLimits, value: Value) -> Result<Value, Cause> {
+    if limits.allow(value.measure()) {
+        return Ok(value);
+    }
+    Err(Cause::TooLarge)
+}
+
+#[cycle(value)]
+fn value_of(alloc: Global, parsed: &json::Value<'_>) -> Result<Value, Cause> {
+    match parsed {
+        json::Value::Null => Ok(Value::Unit),
+        json::Value::Bool(truth) => Ok(Value::Bool(*truth)),
+        json::Value::Number(digits) => integer(digits),
+        json::Value::String(text) => Ok(Value::text(alloc, String::from_str(alloc, text)?)?),
+        json::Value::Array(items) => array(alloc, items.as_slice()),
+        json::Value::Object(members) => object(alloc, members.as_slice()),
+    }
+}
+
+fn integer(digits: &str) -> Result<Value, Cause> {
+    match digits.parse::<i64>() {
+        Ok(number) => Ok(Value::Int(number)),
+        Err(_) => Err(Cause::WrongType("integers of 64 bits alone in JSON")),
+    }
+}
+
+#[cycle(value)]
+fn array(alloc: Global, parsed: &[json::Value<'_>]) -> Result<Value, Cause> {
+    let mut items = Vec::new(alloc);
+    for item in parsed {
+        items.push(value_of(alloc, item)?)?;
+    }
+    Ok(Value::array(alloc, items)?)
+}
+
+#[cycle(value)]
+fn object(alloc: Global, parsed: &[(&str, json::Value<'_>)]) -> Result<Value, Cause> {
+    let mut object = Object::new(alloc);
+    for (name, value) in parsed {
+        let value = value_of(alloc, value)?;
+        let _ = object.insert(String::from_str(alloc, name)?, value)?;
+    }
+    Ok(Value::Map(Rc::new(alloc, object)?))
+}
