@@ -133,9 +133,99 @@ let x = [1, 2];
 let f = |item| item + 1;
 print(x.map(f));
 //= [2, 3]
-//--- and no function of that array and the closure
-let x = [1, 2];
-let f = |item| item + 1;
-print(map(x, f));
-//! Function not found: map (array, Fn)
-//@ 3:7
+//--- an index after the item
+print([10, 20].map(|x, i| x + i));
+print([5, 6, 7].filter(|x, i| i != 1));
+print([1, 2, 3].all(|x, i| x == i + 1));
+print([1, 2, 3].find_index(|x, i| x + i == 5));
+//= [10, 21]
+//= [5, 7]
+//= true
+//= 2
+//--- the item as this
+print([1, 2].map(|| this * 3));
+print([1, 2, 3].some(|| this == 2));
+fn is_even_one() { this % 2 == 0 }
+print([1, 2, 4].filter(Fn("is_even_one")));
+//= [3, 6]
+//= true
+//= [2, 4]
+//--- for_each has the item as this, and passes the index
+let a = [1, 2, 3];
+a.for_each(|| this *= 10);
+print(a);
+let sum = 0;
+a.for_each(|i| sum += this * i);
+print(sum);
+//= [10, 20, 30]
+//= 80
+//--- reduce with an index, and with the item as this
+print([1, 2, 3].reduce(|sum, x, i| if i == 0 { x } else { sum * 10 + x }));
+print([1, 2, 3].reduce(|sum| sum + this, 0));
+print([1, 2, 3].reduce_rev(|text, x| text + x, ""));
+print(["a", "b"].reduce_rev(|text, x, i| `${text}${x}${i}`, ""));
+//= 123
+//= 6
+//= 321
+//= b1a0
+//--- find_map
+print([#{ a: 1 }, #{ b: 2 }, #{ c: 3 }].find_map(|m| m.b));
+print([1, 2].find_map(|x| ()) == ());
+//= 2
+//= true
+//--- drain
+let a = [1, 2, 3, 4];
+print(a.drain(|x| x % 2 == 0));
+print(a);
+//= [2, 4]
+//= [1, 3]
+//--- dedup by a function
+let a = [1, 2, 12, 22, 3];
+a.dedup(|x, y| x % 10 == y % 10);
+print(a);
+//= [1, 2, 3]
+//--- index_of a function
+print([4, 5, 6].index_of(|x| x > 4));
+print([4, 5, 6].index_of(6));
+print([4, 5, 6].index_of(|x| x > 9));
+//= 1
+//= 2
+//= -1
+//--- as a function of the array
+let a = [3, 1, 2];
+print(map(a, |x| x + 1));
+print(filter([1, 2, 3], |x| x > 1));
+retain(a, |x| x > 1);
+print(a);
+//= [4, 2, 3]
+//= [2, 3]
+//= [3, 2]
+//--- functions of object maps
+let m = #{ a: 1, b: 2, c: 3 };
+print(m.filter(|name, x| x > 1 && name != "c"));
+print(m.drain(|name, x| x == 1));
+print(m);
+print(m.retain(|name| this == 3));
+print(m);
+//= #{"b": 2}
+//= #{"a": 1}
+//= #{"b": 2, "c": 3}
+//= #{"b": 2}
+//= #{"c": 3}
+//--- what is no function
+[1].map(5)
+//! Data type incorrect: expecting Fn
+//--- drain and retain of a part
+let a = [1, 2, 3, 4, 5];
+print(a.drain(1..3));
+print(a);
+print(a.retain(0..=1));
+print(a);
+//= [2, 3]
+//= [1, 4, 5]
+//= [5]
+//= [1, 4]
+//--- drain of what is neither
+let a = [1];
+a.drain("x")
+//! Data type incorrect: expecting Fn

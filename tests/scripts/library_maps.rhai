@@ -80,7 +80,7 @@ parse_json("[1.5]")
 //! Data type incorrect: expecting integers
 //--- JSON that is caught
 let s = "";
-try { parse_json("[1"); } catch (e) { s = e; }
+try { parse_json("[1"); } catch (e) { s = e.message; }
 print(s.contains("JSON"));
 //= true
 //--- JSON has a limit on nesting

@@ -108,3 +108,62 @@ fn f(x, y) { x - y }
 let x = 5;
 print(x.f(2));
 //= 3
+//--- a function that an object map holds
+let m = #{ count: 40, more: |x| this.count + x, bump: || this.count += 1 };
+print(m.more(2));
+m.bump();
+print(m.count);
+//= 42
+//= 41
+//--- of a part of another value
+let m = #{ v: 3, times: |x| this.v * x, set: |x| this.v = x };
+let all = #{ list: [m], one: m };
+print(all.one.times(2));
+print(all.list[0].times(3));
+all.list[0].set(9);
+all.one.set(8);
+print([all.list[0].v, all.one.v]);
+//= 6
+//= 9
+//= [9, 8]
+//--- of a value that lies in no variable, of a constant and of `this`
+fn make() { #{ k: 5, twice: || this.k * 2 } }
+print(make().twice());
+const M = make();
+print(M.twice());
+fn both() { this.twice() + this.k }
+let m = make();
+print(m.both());
+//= 10
+//= 10
+//= 15
+//--- it comes before functions of the library
+let m = #{ items: [1, 2], len: || this.items.len(), push: |x| this.items.push(x) };
+m.push(7);
+print(m.len());
+print(m.items);
+let outer = #{ m: m };
+print(outer.m.len());
+//= 3
+//= [1, 2, 7]
+//= 3
+//--- it has what it captured, and a property that is no function is not called
+let step = 10;
+let m = #{ v: 1, add: |x| { step += x; this.v + step } };
+print(m.add(1));
+print(step);
+print(m.call_it() ?? 0);
+//= 12
+//= 11
+//! Function not found: call_it (map)
+//--- with another number of arguments it isn't found
+let m = #{ f: |x| x };
+m.f();
+//! Function not found: f (map)
+//@ 2:3
+//--- a function that throws leaves what it changed
+let m = #{ v: 1, fail: || { this.v = 2; throw "no" } };
+try { m.fail(); } catch (e) { print(e); }
+print(m.v);
+//= no
+//= 2

@@ -121,3 +121,24 @@ print(note(1) + note(2) * note(3));
 //= 2
 //= 3
 //= 7
+//--- a character counts as a string of one character
+print(['a' == "a", "a" == 'a', 'a' == "ab", 'a' != "b"]);
+print(['a' < "b", "b" > 'a', "ab" > 'a', "" < 'a', 'b' <= "b"]);
+print("hello"[0] == "h");
+//= [true, true, false, true]
+//= [true, true, true, true, true]
+//= true
+//--- truth values have an order
+print([true > false, true >= true, false < true, true < false]);
+//= [true, true, true, false]
+//--- arrays have no order
+let a = [1];
+a < [2]
+//! Function not found: < (array, array)
+//@ 2:3
+//--- nor have object maps
+#{} >= #{}
+//! Function not found: >= (map, map)
+//--- unit is never less
+print([() < (), () >= (), () == ()]);
+//= [false, false, true]

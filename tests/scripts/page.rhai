@@ -135,8 +135,8 @@ print(`x is ${x.len + 1}`);
 //= 3
 //= x is 4
 
-//--- functions are called with items, and integers have bits
-[1, 2].for_each(|item| print(item));
+//--- for_each has the item as this, and integers have bits
+[1, 2].for_each(|| print(this));
 let x = 5;
 let i = 1;
 print(x[i]);

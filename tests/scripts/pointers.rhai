@@ -213,3 +213,18 @@ print(f.call(1));
 //--- a text calls no function
 call("len$", [1]);
 //! Data type incorrect: expecting Fn
+//--- a name that no function can have
+fn check(name) { try { Fn(name); return "a pointer"; } catch (e) { return e.error; } }
+print([check("a b"), check(""), check("1a"), check("_"), check("_a1"), check("+")]);
+//= ["ErrorFunctionNotFound", "ErrorFunctionNotFound", "ErrorFunctionNotFound", "ErrorFunctionNotFound", "a pointer", "a pointer"]
+//--- whether a function is defined
+fn foo(a) { a }
+fn int.bar() { this }
+print([is_def_fn("foo", 1), is_def_fn("foo", 0), is_def_fn("none", 1), is_def_fn("foo", -1)]);
+print([is_def_fn("int", "bar", 0), is_def_fn("bar", 0), is_def_fn("string", "bar", 0)]);
+let k = 1;
+let f = |x| x + k;
+print([is_def_fn(f, 1), is_def_fn(f, 0), is_def_fn(f.curry(1), 0), is_def_fn(Fn("abs"), 1)]);
+//= [true, false, false, false]
+//= [true, false, false]
+//= [true, false, true, false]

@@ -2,7 +2,9 @@
 //! themselves, added to each script that names them.
 //!
 //! They call no function that a script can declare, since that one would be found first: they append by `+=`, and count by a loop.
-//! No script can declare an operator, `is_def_fn`, nor what `f.call(x)` does. Those of object maps need `keys`.
+//! No script can declare an operator, `is_def_fn`, `type_of`, nor what `f.call(x)` does. Those of object maps need `keys`. If the
+//! library has a function of the same name for other arguments, it is called with the array as its first one: as a method this one
+//! would be found.
 
 use rhai_errors::CompileError;
 use rhai_syntax::Syntax;
@@ -48,7 +50,7 @@ const ENTRIES: &'static [Entry] = &[
     Entry {
         name: "drain",
         params: 1,
-        parts: &["fn array.drain(f) { ", PASSING, "let kept = []; let dropped = []; for (x, i) in this { if ", GIVEN, " { dropped += [x]; } else { kept += [x]; } } this = kept; dropped }\n"],
+        parts: &["fn array.drain(f) { if type_of(f) == `range` || type_of(f) == `range=` { let all = this; let gone = drain(all, f); this = all; return gone; } ", PASSING, "let kept = []; let dropped = []; for (x, i) in this { if ", GIVEN, " { dropped += [x]; } else { kept += [x]; } } this = kept; dropped }\n"],
     },
     Entry {
         name: "drain",
@@ -118,7 +120,7 @@ const ENTRIES: &'static [Entry] = &[
     Entry {
         name: "retain",
         params: 1,
-        parts: &["fn array.retain(f) { ", PASSING, "let kept = []; let dropped = []; for (x, i) in this { if ", GIVEN, " { kept += [x]; } else { dropped += [x]; } } this = kept; dropped }\n"],
+        parts: &["fn array.retain(f) { if type_of(f) == `range` || type_of(f) == `range=` { let all = this; let gone = retain(all, f); this = all; return gone; } ", PASSING, "let kept = []; let dropped = []; for (x, i) in this { if ", GIVEN, " { kept += [x]; } else { dropped += [x]; } } this = kept; dropped }\n"],
     },
     Entry {
         name: "retain",

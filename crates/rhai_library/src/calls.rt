@@ -49,13 +49,52 @@ fn of_any(
         (Function::ToJson, []) if matches!(receiver, Value::Array(_) | Value::Map(_)) =>
             to_json::text_of(alloc, limits, receiver)?,
         (Function::Take, []) => return Ok(Some(receiver.take())),
-        (Function::Range, [Value::Int(to)]) => {
-            return match receiver {
-                Value::Int(from) => Ok(Some(Value::range(alloc, *from, *to, false)?)),
-                _ => Ok(None),
-            };
-        }
+        (Function::Range, bounds) => return range(alloc, limits, receiver, bounds),
         _ => return Ok(None),
     };
     Ok(Some(Value::text(alloc, text)?))
+}
+
+/// The integers from the receiver up to another one: a range, or with a step an array.
+fn range(
+    alloc: Global,
+    limits: SizeLimits,
+    receiver: &Value,
+    bounds: &[Value],
+) -> Result<Option<Value>, Cause> {
+    match (receiver, bounds) {
+        (Value::Int(from), [Value::Int(to)]) => Ok(Some(Value::range(alloc, *from, *to, false)?)),
+        (Value::Int(from), [Value::Int(to), Value::Int(step)]) => {
+            let steps = steps(alloc, limits, (*from, *to), *step)?;
+            Ok(Some(Value::array(alloc, steps)?))
+        }
+        _ => Ok(None),
+    }
+}
+
+/// The integers from one to before another, by a step that may be below 0.
+fn steps(
+    alloc: Global,
+    limits: SizeLimits,
+    bounds: (i64, i64),
+    step: i64,
+) -> Result<Vec<Value>, Cause> {
+    let (from, to) = bounds;
+    if step == 0 {
+        return Err(Cause::WrongType("a step that isn't zero"));
+    }
+    let mut items = Vec::new(alloc);
+    let mut next = Some(from);
+    for _ in 0..limits.size {
+        let Some(number) = next else {
+            return Ok(items);
+        };
+        let is_past = if step > 0 { number >= to } else { number <= to };
+        if is_past {
+            return Ok(items);
+        }
+        items.push(Value::Int(number))?;
+        next = number.checked_add(step);
+    }
+    Err(Cause::TooLarge)
 }

@@ -52,25 +52,41 @@ pub fn operate_on(
     }
 }
 
-/// What comparing gives: values of two types are never equal, and none of them is less than the other.
+/// What comparing gives: values of two types are never equal, and none of them is less than the other. `None` means that values of
+/// this type have no order.
 fn compared(operator: &Token, left: &Value, right: &Value) -> Option<Value> {
     let holds = match operator {
         Token::EqualsTo => are_equal(left, right),
         Token::NotEqualsTo => !are_equal(left, right),
-        Token::LessThan => matches!(order(left, right), Some(Ordering::Less)),
-        Token::GreaterThan => matches!(order(left, right), Some(Ordering::Greater)),
+        Token::LessThan => matches!(ordered(left, right)?, Some(Ordering::Less)),
+        Token::GreaterThan => matches!(ordered(left, right)?, Some(Ordering::Greater)),
         Token::LessThanEqualsTo => {
-            matches!(order(left, right), Some(Ordering::Less | Ordering::Equal))
+            matches!(ordered(left, right)?, Some(Ordering::Less | Ordering::Equal))
         }
         Token::GreaterThanEqualsTo => {
             matches!(
-                order(left, right),
+                ordered(left, right)?,
                 Some(Ordering::Greater | Ordering::Equal)
             )
         }
         _ => return None,
     };
     Some(Value::Bool(holds))
+}
+
+/// How two values compare: `Some(None)` if they are of two types or unit, and `None` if they are of one type that has no order.
+fn ordered(left: &Value, right: &Value) -> Option<Option<Ordering>> {
+    match order(left, right) {
+        Some(order) => Some(Some(order)),
+        None => match (left, right) {
+            (Value::Array(_), Value::Array(_))
+            | (Value::Map(_), Value::Map(_))
+            | (Value::Blob(_), Value::Blob(_))
+            | (Value::Range(_), Value::Range(_))
+            | (Value::Pointer(_), Value::Pointer(_)) => None,
+            _ => Some(None),
+        },
+    }
 }
 
 fn of_truths(operator: &Token, x: bool, y: bool) -> Option<bool> {
@@ -212,7 +228,7 @@ fn reduced(alloc: Global, left: &Value, right: &Value) -> Result<Option<Value>, 
     let Value::Text(text) = left else {
         return Ok(None);
     };
-    let Some(part) = words::spelled(alloc, right)? else {
+    let Some(part) = words::text_of(alloc, right)? else {
         return Ok(None);
     };
     let rest = words::replaced(alloc, text.as_str(), part.as_str(), "")?;

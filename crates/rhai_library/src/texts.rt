@@ -92,7 +92,7 @@ fn with_one(
     text: &mut Rc<Text>,
     argument: &Value,
 ) -> Result<Option<Value>, Cause> {
-    if let Some(other) = words::spelled(alloc, argument)? {
+    if let Some(other) = words::text_of(alloc, argument)? {
         return with_text(alloc, function, text, other.as_str());
     }
     match function {
@@ -185,7 +185,7 @@ fn with_number_and(
 ) -> Result<Option<Value>, Cause> {
     match (function, argument) {
         (Function::Pad, argument) => {
-            let Some(padding) = words::spelled(alloc, argument)? else {
+            let Some(padding) = words::text_of(alloc, argument)? else {
                 return Ok(None);
             };
             padded(limits, text, count_of(number), padding.as_str())?;
@@ -210,7 +210,7 @@ fn with_text_and_number(
     argument: &Value,
     number: i64,
 ) -> Result<Option<Value>, Cause> {
-    let Some(other) = words::spelled(alloc, argument)? else {
+    let Some(other) = words::text_of(alloc, argument)? else {
         return Ok(None);
     };
     let (other, count) = (other.as_str(), count_of(number));
@@ -235,8 +235,8 @@ fn with_two(
         return Ok(None);
     };
     let (Some(old), Some(new)) = (
-        words::spelled(alloc, first)?,
-        words::spelled(alloc, second)?,
+        words::text_of(alloc, first)?,
+        words::text_of(alloc, second)?,
     ) else {
         return Ok(None);
     };

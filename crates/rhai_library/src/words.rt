@@ -75,7 +75,7 @@ fn count_of(text: &Text, part: &str) -> usize {
 }
 
 /// The text that a text is or a character makes. `None` of other values.
-pub(crate) fn spelled(alloc: Global, value: &Value) -> Result<Option<String>, Cause> {
+pub(crate) fn text_of(alloc: Global, value: &Value) -> Result<Option<String>, Cause> {
     match value {
         Value::Text(text) => Ok(Some(String::from_str(alloc, text.as_str())?)),
         Value::Char(character) => {

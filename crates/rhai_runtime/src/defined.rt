@@ -6,7 +6,7 @@ use rhai_values::Value;
 
 impl<W: World + Drop> Script<W> {
     /// What `is_def_fn` gives: whether the script has a function of a name with a number of parameters, also for a type of `this`;
-    /// or whether the function of a pointer takes a number of arguments.
+    /// or whether the function of a pointer takes a number of arguments. No other value takes any.
     pub(crate) fn is_def_fn(&self, arguments: &[Value]) -> Option<Value> {
         let (this_type, name, bound, params) = match arguments {
             [Value::Text(name), Value::Int(params)] => (None, name.as_str(), 0usize, *params),
@@ -16,6 +16,7 @@ impl<W: World + Drop> Script<W> {
             [Value::Pointer(pointer), Value::Int(params)] => {
                 (None, pointer.name(), pointer.bound().len(), *params)
             }
+            [_, Value::Int(_)] => return Some(Value::Bool(false)),
             _ => return None,
         };
         let is_def = match usize::try_from(params) {
