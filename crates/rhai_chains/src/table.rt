@@ -148,10 +148,8 @@ impl NameTable {
             return false;
         };
         match self.meanings.get(index as usize) {
-            Some(meaning) => meaning
-                .declared
-                .iter()
-                .any(|declared| declared.params == params && declared.this_type == this_type),
+            Some(meaning) => meaning.declared.iter().any(|declared| declared.params == params
+                && declared.this_type == this_type),
             None => false,
         }
     }

@@ -19,16 +19,20 @@ struct Entry {
 }
 
 /// How an array passes its items: `n` is 1 if as the argument, 2 if with the index after it, and 0 if as `this`.
-const PASSING: &'static str = "let n = if is_def_fn(f, 0) { 0 } else if is_def_fn(f, 2) && !is_def_fn(f, 1) { 2 } else { 1 }; ";
+const PASSING: &'static str =
+    "let n = if is_def_fn(f, 0) { 0 } else if is_def_fn(f, 2) && !is_def_fn(f, 1) { 2 } else { 1 }; ";
 
 /// What the function gives for the item `x` at the index `i`.
-const GIVEN: &'static str = "(if n == 1 { f.call(x) } else if n == 2 { f.call(x, i) } else { x.call(f) })";
+const GIVEN: &'static str =
+    "(if n == 1 { f.call(x) } else if n == 2 { f.call(x, i) } else { x.call(f) })";
 
 /// As [`PASSING`], after what the items before have made.
-const REDUCING: &'static str = "let n = if is_def_fn(f, 1) { 1 } else if is_def_fn(f, 3) && !is_def_fn(f, 2) { 3 } else { 2 }; ";
+const REDUCING: &'static str =
+    "let n = if is_def_fn(f, 1) { 1 } else if is_def_fn(f, 3) && !is_def_fn(f, 2) { 3 } else { 2 }; ";
 
 /// What the function makes of what was made before and of an item.
-const REDUCED: &'static str = "(if n == 2 { f.call(made, x) } else if n == 3 { f.call(made, x, i) } else { x.call(f, made) })";
+const REDUCED: &'static str =
+    "(if n == 2 { f.call(made, x) } else if n == 3 { f.call(made, x, i) } else { x.call(f, made) })";
 
 /// How an object map passes its entries: the name and the value, or the name alone with the value as `this`.
 const NAMING: &'static str = "let n = if is_def_fn(f, 1) && !is_def_fn(f, 2) { 1 } else { 2 }; ";
@@ -40,102 +44,210 @@ const ENTRIES: &'static [Entry] = &[
     Entry {
         name: "all",
         params: 1,
-        parts: &["fn array.all(f) { ", PASSING, "for (x, i) in this { if !", GIVEN, " { return false; } } true }\n"],
+        parts: &[
+            "fn array.all(f) { ",
+            PASSING,
+            "for (x, i) in this { if !",
+            GIVEN,
+            " { return false; } } true }\n",
+        ],
     },
     Entry {
         name: "dedup",
         params: 1,
-        parts: &["fn array.dedup(f) { let kept = []; let last = (); let is_first = true; for x in this { if is_first || !f.call(last, x) { kept += [x]; last = x; } is_first = false; } this = kept; () }\n"],
+        parts: &[
+            "fn array.dedup(f) { let kept = []; let last = (); let is_first = true; for x in this { if is_first || !f.call(last, x) { kept += [x]; last = x; } is_first = false; } this = kept; () }\n",
+        ],
     },
     Entry {
         name: "drain",
         params: 1,
-        parts: &["fn array.drain(f) { if type_of(f) == `range` || type_of(f) == `range=` { let all = this; let gone = drain(all, f); this = all; return gone; } ", PASSING, "let kept = []; let dropped = []; for (x, i) in this { if ", GIVEN, " { dropped += [x]; } else { kept += [x]; } } this = kept; dropped }\n"],
+        parts: &[
+            "fn array.drain(f) { if type_of(f) == `range` || type_of(f) == `range=` { let all = this; let gone = drain(all, f); this = all; return gone; } ",
+            PASSING,
+            "let kept = []; let dropped = []; for (x, i) in this { if ",
+            GIVEN,
+            " { dropped += [x]; } else { kept += [x]; } } this = kept; dropped }\n",
+        ],
     },
     Entry {
         name: "drain",
         params: 1,
-        parts: &["fn map.drain(f) { ", NAMING, "let kept = #{}; let dropped = #{}; for k in this.keys() { let x = this[k]; if ", NAMED, " { dropped[k] = x; } else { kept[k] = x; } } this = kept; dropped }\n"],
+        parts: &[
+            "fn map.drain(f) { ",
+            NAMING,
+            "let kept = #{}; let dropped = #{}; for k in this.keys() { let x = this[k]; if ",
+            NAMED,
+            " { dropped[k] = x; } else { kept[k] = x; } } this = kept; dropped }\n",
+        ],
     },
     Entry {
         name: "filter",
         params: 1,
-        parts: &["fn array.filter(f) { ", PASSING, "let kept = []; for (x, i) in this { if ", GIVEN, " { kept += [x]; } } kept }\n"],
+        parts: &[
+            "fn array.filter(f) { ",
+            PASSING,
+            "let kept = []; for (x, i) in this { if ",
+            GIVEN,
+            " { kept += [x]; } } kept }\n",
+        ],
     },
     Entry {
         name: "filter",
         params: 1,
-        parts: &["fn map.filter(f) { ", NAMING, "let kept = #{}; for k in this.keys() { let x = this[k]; if ", NAMED, " { kept[k] = x; } } kept }\n"],
+        parts: &[
+            "fn map.filter(f) { ",
+            NAMING,
+            "let kept = #{}; for k in this.keys() { let x = this[k]; if ",
+            NAMED,
+            " { kept[k] = x; } } kept }\n",
+        ],
     },
     Entry {
         name: "find",
         params: 1,
-        parts: &["fn array.find(f) { ", PASSING, "for (x, i) in this { if ", GIVEN, " { return x; } } () }\n"],
+        parts: &[
+            "fn array.find(f) { ",
+            PASSING,
+            "for (x, i) in this { if ",
+            GIVEN,
+            " { return x; } } () }\n",
+        ],
     },
     Entry {
         name: "find_index",
         params: 1,
-        parts: &["fn array.find_index(f) { ", PASSING, "for (x, i) in this { if ", GIVEN, " { return i; } } -1 }\n"],
+        parts: &[
+            "fn array.find_index(f) { ",
+            PASSING,
+            "for (x, i) in this { if ",
+            GIVEN,
+            " { return i; } } -1 }\n",
+        ],
     },
     Entry {
         name: "find_map",
         params: 1,
-        parts: &["fn array.find_map(f) { ", PASSING, "for (x, i) in this { let found = ", GIVEN, "; if found != () { return found; } } () }\n"],
+        parts: &[
+            "fn array.find_map(f) { ",
+            PASSING,
+            "for (x, i) in this { let found = ",
+            GIVEN,
+            "; if found != () { return found; } } () }\n",
+        ],
     },
     Entry {
         name: "for_each",
         params: 1,
-        parts: &["fn array.for_each(f) { let n = if is_def_fn(f, 0) { 0 } else if is_def_fn(f, 1) { 1 } else { 2 }; for (x, i) in this { if n == 0 { x.call(f); } else if n == 1 { x.call(f, i); } else { f.call(x); } if n < 2 { this[i] = x; } } () }\n"],
+        parts: &[
+            "fn array.for_each(f) { let n = if is_def_fn(f, 0) { 0 } else if is_def_fn(f, 1) { 1 } else { 2 }; for (x, i) in this { if n == 0 { x.call(f); } else if n == 1 { x.call(f, i); } else { f.call(x); } if n < 2 { this[i] = x; } } () }\n",
+        ],
     },
     Entry {
         name: "index_of",
         params: 1,
-        parts: &["fn array.index_of(f) { if type_of(f) != `Fn` { return index_of(this, f); } ", PASSING, "for (x, i) in this { if ", GIVEN, " { return i; } } -1 }\n"],
+        parts: &[
+            "fn array.index_of(f) { if type_of(f) != `Fn` { return index_of(this, f); } ",
+            PASSING,
+            "for (x, i) in this { if ",
+            GIVEN,
+            " { return i; } } -1 }\n",
+        ],
     },
     Entry {
         name: "map",
         params: 1,
-        parts: &["fn array.map(f) { ", PASSING, "let made = []; if n == 1 { for x in this { made += [f.call(x)]; } return made; } for (x, i) in this { made += [", GIVEN, "]; } made }\n"],
+        parts: &[
+            "fn array.map(f) { ",
+            PASSING,
+            "let made = []; if n == 1 { for x in this { made += [f.call(x)]; } return made; } for (x, i) in this { made += [",
+            GIVEN,
+            "]; } made }\n",
+        ],
     },
     Entry {
         name: "reduce",
         params: 1,
-        parts: &["fn array.reduce(f) { ", REDUCING, "let made = (); for (x, i) in this { made = ", REDUCED, "; } made }\n"],
+        parts: &[
+            "fn array.reduce(f) { ",
+            REDUCING,
+            "let made = (); for (x, i) in this { made = ",
+            REDUCED,
+            "; } made }\n",
+        ],
     },
     Entry {
         name: "reduce",
         params: 2,
-        parts: &["fn array.reduce(f, made) { ", REDUCING, "for (x, i) in this { made = ", REDUCED, "; } made }\n"],
+        parts: &[
+            "fn array.reduce(f, made) { ",
+            REDUCING,
+            "for (x, i) in this { made = ",
+            REDUCED,
+            "; } made }\n",
+        ],
     },
     Entry {
         name: "reduce_rev",
         params: 1,
-        parts: &["fn array.reduce_rev(f) { ", REDUCING, "let made = (); let i = 0; for _ in this { i += 1; } while i > 0 { i -= 1; let x = this[i]; made = ", REDUCED, "; } made }\n"],
+        parts: &[
+            "fn array.reduce_rev(f) { ",
+            REDUCING,
+            "let made = (); let i = 0; for _ in this { i += 1; } while i > 0 { i -= 1; let x = this[i]; made = ",
+            REDUCED,
+            "; } made }\n",
+        ],
     },
     Entry {
         name: "reduce_rev",
         params: 2,
-        parts: &["fn array.reduce_rev(f, made) { ", REDUCING, "let i = 0; for _ in this { i += 1; } while i > 0 { i -= 1; let x = this[i]; made = ", REDUCED, "; } made }\n"],
+        parts: &[
+            "fn array.reduce_rev(f, made) { ",
+            REDUCING,
+            "let i = 0; for _ in this { i += 1; } while i > 0 { i -= 1; let x = this[i]; made = ",
+            REDUCED,
+            "; } made }\n",
+        ],
     },
     Entry {
         name: "retain",
         params: 1,
-        parts: &["fn array.retain(f) { if type_of(f) == `range` || type_of(f) == `range=` { let all = this; let gone = retain(all, f); this = all; return gone; } ", PASSING, "let kept = []; let dropped = []; for (x, i) in this { if ", GIVEN, " { kept += [x]; } else { dropped += [x]; } } this = kept; dropped }\n"],
+        parts: &[
+            "fn array.retain(f) { if type_of(f) == `range` || type_of(f) == `range=` { let all = this; let gone = retain(all, f); this = all; return gone; } ",
+            PASSING,
+            "let kept = []; let dropped = []; for (x, i) in this { if ",
+            GIVEN,
+            " { kept += [x]; } else { dropped += [x]; } } this = kept; dropped }\n",
+        ],
     },
     Entry {
         name: "retain",
         params: 1,
-        parts: &["fn map.retain(f) { ", NAMING, "let kept = #{}; let dropped = #{}; for k in this.keys() { let x = this[k]; if ", NAMED, " { kept[k] = x; } else { dropped[k] = x; } } this = kept; dropped }\n"],
+        parts: &[
+            "fn map.retain(f) { ",
+            NAMING,
+            "let kept = #{}; let dropped = #{}; for k in this.keys() { let x = this[k]; if ",
+            NAMED,
+            " { kept[k] = x; } else { dropped[k] = x; } } this = kept; dropped }\n",
+        ],
     },
     Entry {
         name: "some",
         params: 1,
-        parts: &["fn array.some(f) { ", PASSING, "for (x, i) in this { if ", GIVEN, " { return true; } } false }\n"],
+        parts: &[
+            "fn array.some(f) { ",
+            PASSING,
+            "for (x, i) in this { if ",
+            GIVEN,
+            " { return true; } } false }\n",
+        ],
     },
     Entry {
         name: "sort",
         params: 1,
-        parts: &["fn array.sort(f) { let size = 0; for _ in this { size += 1; } let width = 1; while width < size { let merged = []; let start = 0; while start < size { let i = start; let middle = start + width; if middle > size { middle = size; } let j = middle; let end = middle + width; if end > size { end = size; } while i < middle || j < end { if j >= end || (i < middle && f.call(this[i], this[j]) <= 0) { merged += [this[i]]; i += 1; } else { merged += [this[j]]; j += 1; } } start = end; } this = merged; width *= 2; } () }\n"],
+        parts: &[
+            "fn array.sort(f) { let size = 0; for _ in this { size += 1; } let width = 1; while width < size { let merged = []; let start = 0; while start < size { let i = start; let middle = start + width; if middle > size { middle = size; } let j = middle; let end = middle + width; if end > size { end = size; } while i < middle || j < end { if j >= end || (i < middle && f.call(this[i], this[j]) <= 0) { merged += [this[i]]; i += 1; } else { merged += [this[j]]; j += 1; } } start = end; } this = merged; width *= 2; } () }\n",
+        ],
     },
 ];
 

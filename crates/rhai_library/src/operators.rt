@@ -61,7 +61,10 @@ fn compared(operator: &Token, left: &Value, right: &Value) -> Option<Value> {
         Token::LessThan => matches!(ordered(left, right)?, Some(Ordering::Less)),
         Token::GreaterThan => matches!(ordered(left, right)?, Some(Ordering::Greater)),
         Token::LessThanEqualsTo => {
-            matches!(ordered(left, right)?, Some(Ordering::Less | Ordering::Equal))
+            matches!(
+                ordered(left, right)?,
+                Some(Ordering::Less | Ordering::Equal)
+            )
         }
         Token::GreaterThanEqualsTo => {
             matches!(

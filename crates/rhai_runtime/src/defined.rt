@@ -10,9 +10,11 @@ impl<W: World + Drop> Script<W> {
     pub(crate) fn is_def_fn(&self, arguments: &[Value]) -> Option<Value> {
         let (this_type, name, bound, params) = match arguments {
             [Value::Text(name), Value::Int(params)] => (None, name.as_str(), 0usize, *params),
-            [Value::Text(this_type), Value::Text(name), Value::Int(params)] => {
-                (Some(this_type.as_str()), name.as_str(), 0, *params)
-            }
+            [
+                Value::Text(this_type),
+                Value::Text(name),
+                Value::Int(params),
+            ] => { (Some(this_type.as_str()), name.as_str(), 0, *params) }
             [Value::Pointer(pointer), Value::Int(params)] => {
                 (None, pointer.name(), pointer.bound().len(), *params)
             }

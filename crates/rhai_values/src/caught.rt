@@ -18,7 +18,12 @@ impl Cause {
             cause => cause,
         };
         let mut object = Object::new(alloc);
-        put_text(alloc, &mut object, "error", String::from_str(alloc, cause.error_name())?)?;
+        put_text(
+            alloc,
+            &mut object,
+            "error",
+            String::from_str(alloc, cause.error_name())?,
+        )?;
         put_text(alloc, &mut object, "message", format!(in alloc; "{cause}")?)?;
         if let Some(line) = place.line() {
             put(alloc, &mut object, "line", integer(line))?;

@@ -16,9 +16,8 @@ pub fn are_equal(left: &Value, right: &Value) -> bool {
         (Value::Int(x), Value::Int(y)) => x == y,
         (Value::Char(x), Value::Char(y)) => x == y,
         (Value::Text(x), Value::Text(y)) => x.as_str() == y.as_str(),
-        (Value::Text(text), Value::Char(character)) | (Value::Char(character), Value::Text(text)) => {
-            matches!(order_of_character(text, *character), Ordering::Equal)
-        }
+        (Value::Text(text), Value::Char(character)) | (Value::Char(character), Value::Text(text)) =>
+            { matches!(order_of_character(text, *character), Ordering::Equal) }
         (Value::Range(x), Value::Range(y)) => **x == **y,
         (Value::Array(x), Value::Array(y)) => are_items_equal(&x.items, &y.items),
         (Value::Blob(x), Value::Blob(y)) => x.as_slice() == y.as_slice(),
