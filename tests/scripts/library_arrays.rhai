@@ -246,3 +246,8 @@ x.sort();
 let x = [1, true, (), "a\"b\\c\n", 'x', [], #{}, [[2]], 1..3];
 print(x.to_json());
 //= [1,true,null,"a\"b\\c\n","x",[],{},[[2]],"1..3"]
+//--- a part of a part, in place
+let a = [[3, 1], 2];
+a[0].sort_desc();
+print([a[0].drain(0, 1), a]);
+//= [[3], [[1], 2]]

@@ -153,3 +153,7 @@ fn foo() { 1 }
 let f = |x| x + 1;
 print([Fn("foo").is_anonymous, f.is_anonymous, f.is_anonymous()]);
 //= [false, true, true]
+//--- a constant isn't taken
+const C = 5;
+print([C.take(), C]);
+//= [5, 5]
