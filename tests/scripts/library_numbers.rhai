@@ -157,3 +157,15 @@ print([Fn("foo").is_anonymous, f.is_anonymous, f.is_anonymous()]);
 const C = 5;
 print([C.take(), C]);
 //= [5, 5]
+//--- an op-assignment to bits
+let x = 0;
+x[2] |= true;
+print(x);
+x[1..=2] += 1;
+print(x);
+let m = #{ x: 8 };
+m.x[0] |= true;
+print(m.x);
+//= 4
+//= 6
+//= 9

@@ -302,3 +302,8 @@ print(s);
 //--- pad and split take no truth values
 "a".split(true)
 //! Function not found
+//--- an op-assignment to a character
+let s = "abc";
+s[1] += 1;
+//! Data type incorrect: expecting a character
+//@ 2:3

@@ -78,8 +78,10 @@ pub fn walk(
         return Ok(Some(Value::Unit));
     }
     let mut part = placed(step, taken(context, value, step, operands))?;
+    let is_assigned = rest.is_empty() && matches!(goal, Goal::Assign { .. });
     let result = walk(context, &mut part.value, rest, operands, goal);
-    if part.is_taken {
+    // A bit of an integer and a character of a text are copies, so that an op-assignment to one is assigned itself.
+    if part.is_taken || (is_assigned && result.is_ok()) {
         placed(step, put_back(context, value, step, operands, part.value))?;
     }
     result
