@@ -29,6 +29,9 @@ impl<F: Fn(&mut Emitter, &Expr, usize, bool) -> Result<(), CompileError>> Coder<
             (CallTarget::Evaluated, _) => {
                 Err(CompileError::new(place, Problem::Unsupported(Thing::Eval)))
             }
+            (CallTarget::Defined, [argument]) if emitter.is_defined(argument) => {
+                emitter.put(place, Op::Bool(true), 0, 1)
+            }
             (CallTarget::Shared, [argument]) => self.is_shared(emitter, place, argument),
             (CallTarget::Pointer, [argument]) => {
                 self.expr(emitter, argument, true)?;
