@@ -111,3 +111,12 @@ f.call(4);
 f.call(5);
 print(seen);
 //= [8, 10]
+//--- the last statement of a block
+let x = { try { 1 } catch { 2 } };
+print(x == ());
+let f = |n| { try { if n > 1 { throw "large"; } print("small"); } catch (e) { print(e); } };
+f.call(1);
+f.call(2);
+//= true
+//= small
+//= large

@@ -25,7 +25,7 @@ pub enum CallTarget {
     Shared,
     /// A text is evaluated.
     Evaluated,
-    /// Whether a variable is declared.
+    /// Whether a variable is declared that is: the value is true.
     Defined,
     /// Any other function.
     Function,
@@ -39,7 +39,6 @@ pub fn callee_of(name: &str) -> CallTarget {
         "curry" => CallTarget::Curried,
         "is_shared" => CallTarget::Shared,
         "eval" => CallTarget::Evaluated,
-        "is_def_var" => CallTarget::Defined,
         _ => CallTarget::Function,
     }
 }
@@ -82,8 +81,17 @@ impl Emitter {
         }
     }
 
+    /// What a call of the name with these arguments is. `is_def_var` is a function of the host, except for the name of a local
+    /// variable, of which the host knows nothing.
+    pub fn target_of(&self, name: u32, arguments: &[Expr]) -> CallTarget {
+        match (self.pools.names.get(name), arguments) {
+            ("is_def_var", [argument]) if self.is_defined(argument) => CallTarget::Defined,
+            (name, _) => callee_of(name),
+        }
+    }
+
     /// Whether an expression is a text that names a local variable.
-    pub fn is_defined(&self, from: &Expr) -> bool {
+    fn is_defined(&self, from: &Expr) -> bool {
         let Form::Literal(Literal::Text(text)) = &from.form else {
             return false;
         };

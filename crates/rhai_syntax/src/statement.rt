@@ -270,7 +270,7 @@ impl<F: Fn(&mut Cursor, usize, u8) -> Result<Expr, CompileError>> Grammar<F> {
             if cursor.eat(Mark::RightBrace) {
                 return Ok(arms);
             }
-            check_no_default(&arms)?;
+            check_no_default(cursor, &arms)?;
             let arm = self.arm(cursor)?;
             let is_closed = ends_itself(&arm.body.form);
             arms.push(arm)?;
@@ -314,10 +314,10 @@ impl<F: Fn(&mut Cursor, usize, u8) -> Result<Expr, CompileError>> Grammar<F> {
     }
 }
 
-/// The last arm isn't that of the case `_`, after which no other comes.
-fn check_no_default(arms: &[Arm]) -> Result<(), CompileError> {
+/// The next arm doesn't follow that of the case `_`, unless it repeats that case.
+fn check_no_default(cursor: &Cursor, arms: &[Arm]) -> Result<(), CompileError> {
     match arms.last() {
-        Some(arm) if has_any(&arm.cases) => {
+        Some(arm) if has_any(&arm.cases) && !cursor.is_at(Mark::Underscore) => {
             Err(CompileError::new(arm.place, Problem::DefaultNotLast))
         }
         _ => Ok(()),
