@@ -116,3 +116,11 @@ switch 1 {
     _ => print("other"),
 }
 //= two
+//--- a shared variable
+let x = 1;
+let f = || x;
+print(switch x { () => "unit", _ => "other" });
+x = ();
+print(switch x { () => "unit", _ => "other" });
+//= other
+//= unit
