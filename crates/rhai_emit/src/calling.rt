@@ -25,7 +25,7 @@ pub enum CallTarget {
     Shared,
     /// A text is evaluated.
     Evaluated,
-    /// Whether a variable is declared that is: the value is true.
+    /// Whether a local variable is declared, which is so.
     Defined,
     /// Any other function.
     Function,
@@ -66,7 +66,7 @@ impl Emitter {
     }
 
     /// Whether a name is that of a function of the script, and of no local variable. Its value is a pointer to the function.
-    pub fn is_pointer(&self, name: u32) -> bool {
+    pub(crate) fn is_pointer(&self, name: u32) -> bool {
         self.declared.has_name(name) && self.scope.find(name).is_none()
     }
 
@@ -84,9 +84,10 @@ impl Emitter {
     /// What a call of the name with these arguments is. `is_def_var` is a function of the host, except for the name of a local
     /// variable, of which the host knows nothing.
     pub fn target_of(&self, name: u32, arguments: &[Expr]) -> CallTarget {
-        match (self.pools.names.get(name), arguments) {
-            ("is_def_var", [argument]) if self.is_defined(argument) => CallTarget::Defined,
-            (name, _) => callee_of(name),
+        let name = self.pools.names.get(name);
+        match arguments {
+            [argument] if name == "is_def_var" && self.is_defined(argument) => CallTarget::Defined,
+            _ => callee_of(name),
         }
     }
 
