@@ -69,7 +69,6 @@ print([[1, 2], [3]].map(|row| row.map(|x| x + 1)));
 fn min(a, b) { 0 }
 fn len() { 0 }
 fn push(x) { throw "mine" }
-fn call(x) { throw "mine" }
 let x = [3, 1, 2];
 x.sort(|a, b| a - b);
 print(x);

@@ -91,3 +91,20 @@ print(x);
 //--- a method of a closure in brackets
 print((|x| { x }).curry(1).call());
 //= 1
+//--- a method of a closure with a block
+print(|x| { x }.curry(1).call());
+let f = |x, y| { x * 10 + y }.curry(4);
+print(f.call(2));
+//= 1
+//= 42
+//--- a closure is called where it is written
+print(|| { 7 }.call());
+let x = 8;
+let res = |y, z| { let w = 12; (|| x + y + z + w).call() }.curry(15).call(2);
+print(res);
+//= 7
+//= 37
+//--- a method of the value of a closure
+let f = |x| x.len();
+print(f.call("abc"));
+//= 3

@@ -188,3 +188,120 @@ fn f() { global::X }
 f()
 //! ::
 //@ 3:10
+//--- a name repeated in an object map
+let m = #{ a: 1, b: 2, a: 3 };
+//! property is repeated
+//@ 1:24
+//--- a name and a text repeated in an object map
+let m = #{
+    a: 1,
+    "a": 2,
+};
+//@ 3:5
+//--- a default before others
+switch 1 { 2 => 3, _ => 1, 4 => 5 }
+//! `_`
+//@ 1:20
+//--- a default among others of several lines
+switch 1 {
+    _ => 1,
+    2 => 3,
+}
+//@ 2:5
+//--- a default repeated
+switch 1 { _ => 2, _ => 3 }
+//! repeated
+//@ 1:20
+//--- a unit case repeated
+switch 1 { () => 1, () => 2 }
+//! repeated
+//@ 1:21
+//--- a unit as an end of a range
+switch 1 { 1..() => 1 }
+//@ 1
+//--- a variable with the name of a function of the language
+let print = 1;
+//! reserved
+//@ 1:5
+//--- a constant with the name of a function of the language
+const debug = 1;
+//! reserved
+//@ 1:7
+//--- type_of as a variable
+let type_of = 1;
+//@ 1:5
+//--- eval as a variable
+let eval = 1;
+//@ 1:5
+//--- Fn as a variable
+let Fn = 1;
+//@ 1:5
+//--- is_shared as a variable
+let is_shared = 1;
+//@ 1:5
+//--- is_def_fn as a variable
+let is_def_fn = 1;
+//@ 1:5
+//--- a loop over a name of a function of the language
+for call in [1] { }
+//! reserved
+//@ 1:5
+//--- a counter with such a name
+for (x, curry) in [1] { }
+//@ 1:9
+//--- a parameter with such a name
+fn f(a, print) { a }
+//! reserved
+//@ 1:9
+//--- a parameter of a closure with such a name
+let f = |is_def_var| 1;
+//@ 1:10
+//--- a fault with such a name
+try { f(); } catch (debug) { }
+//@ 1:21
+//--- a function is_def_fn
+fn is_def_fn(name, count) { true }
+//! reserved
+//@ 1:4
+//--- a function is_def_var
+fn is_def_var(name) { true }
+//@ 1:4
+//--- a function is_shared
+fn is_shared(x) { true }
+//@ 1:4
+//--- a function Fn
+fn Fn(x) { x }
+//@ 1:4
+//--- a function eval
+fn eval(x) { x }
+//@ 1:4
+//--- a function type_of
+private fn type_of(x) { x }
+//@ 1:12
+//--- a function call
+fn call(f) { f }
+//@ 1:4
+//--- a method curry
+fn int.curry(x) { x }
+//@ 1:8
+//--- try as the value of a variable
+let r = try { 1 } catch { 2 };
+//! `try` is a statement
+//@ 1:9
+//--- try as an argument
+print(try { 1 } catch (e) { 2 });
+//@ 1:7
+//--- try as an operand
+let r = 1 + try { 1 } catch { 2 };
+//@ 1:13
+//--- an unknown variable that is like a function's name
+fn double(x) { x * 2 }
+print(doubel);
+//@ 2:7
+//--- a function of the library is no value
+let f = len;
+//@ 1:9
+//--- a method of a script is no value
+fn int.twice() { this * 2 }
+let f = twice;
+//@ 2:9

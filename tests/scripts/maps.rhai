@@ -90,3 +90,7 @@ let m = #{};
 loop { m.a = m; }
 //! Size of data too large
 //@ 2
+//--- the same name in two maps
+let m = #{ a: 1, b: #{ a: 2, b: 3 } };
+print(m.a + m.b.a);
+//= 3

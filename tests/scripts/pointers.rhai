@@ -228,3 +228,70 @@ print([is_def_fn(f, 1), is_def_fn(f, 0), is_def_fn(f.curry(1), 0), is_def_fn(Fn(
 //= [true, false, false, false]
 //= [true, false, false]
 //= [true, false, true, false]
+//--- a function by its name
+fn dbl(x) { x * 2 }
+let f = dbl;
+print(f.call(4));
+print([1, 2].map(dbl));
+print(type_of(dbl));
+print(dbl.name);
+print(dbl.call(8));
+//= 8
+//= [2, 4]
+//= Fn
+//= dbl
+//= 16
+//--- a function by its name before it is declared
+print([3, 4].map(half));
+fn half(x) { x / 2 }
+//= [1, 2]
+//--- a variable hides a function of its name
+fn size() { 1 }
+let size = 5;
+print(size);
+print(size());
+//= 5
+//= 1
+//--- behind the block of a variable that hides a function
+fn size() { 1 }
+{ let size = 5; print(size); }
+print(size.call());
+//= 5
+//= 1
+//--- a parameter hides a function of its name
+fn one(x) { x }
+fn two(one) { one + 1 }
+print(two(3));
+//= 4
+//--- a function by its name in a function
+fn inner(x) { x + 1 }
+fn outer(list) { list.map(inner) }
+print(outer([1, 2]));
+//= [2, 3]
+//--- a function by its name in a closure
+fn inner(x) { x + 1 }
+let f = |list| list.map(inner);
+print(f.call([5]));
+//= [6]
+//--- arguments are bound to a function by its name
+fn add(a, b) { a + b }
+print(add.curry(1).call(2));
+print(curry(add, 10).call(5));
+print(call(add, 2, 3));
+//= 3
+//= 15
+//= 5
+//--- a function by its name as a property
+fn add(a, b) { a + b }
+let m = #{ f: add };
+print(m.f.call(1, 2));
+//= 3
+//--- a function by its name isn't shared
+fn f() { 1 }
+print(is_shared(f));
+//= false
+//--- a method of a function by its name
+fn greet() { `I am ${this.name}` }
+let who = #{ name: "Ann" };
+print(who.call(greet));
+//= I am Ann

@@ -94,3 +94,33 @@ loop {
 }
 print(n);
 //= 3
+//--- unit
+fn kind(x) { switch x { () => "unit", 0 => "zero", _ => "other" } }
+print([kind(()), kind(0), kind(1)]);
+//= ["unit", "zero", "other"]
+//--- unit among others
+fn is_false(x) { switch x { () | false | 0 | "" => true, _ => false } }
+print([is_false(()), is_false(false), is_false(0), is_false(""), is_false(1), is_false("a")]);
+//= [true, true, true, true, false, false]
+//--- unit with a condition
+fn kind(x, strict) { switch x { () if strict => "nothing", () => "unit", _ => "some" } }
+print([kind((), true), kind((), false), kind(1, true)]);
+//= ["nothing", "unit", "some"]
+//--- a missing name of an object map
+let m = #{ a: 1 };
+print(switch m.b { () => "missing", _ => "there" });
+//= missing
+//--- try as an arm
+switch 1 {
+    1 => try { throw "two"; } catch (e) { print(e); }
+    _ => print("other"),
+}
+//= two
+//--- a shared variable
+let x = 1;
+let f = || x;
+print(switch x { () => "unit", _ => "other" });
+x = ();
+print(switch x { () => "unit", _ => "other" });
+//= other
+//= unit

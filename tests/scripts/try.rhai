@@ -134,3 +134,12 @@ try {
     print(e.message);
 }
 //= Function not found: no_such (i64)
+//--- the last statement of a block
+let x = { try { 1 } catch { 2 } };
+print(x == ());
+let f = |n| { try { if n > 1 { throw "large"; } print("small"); } catch (e) { print(e); } };
+f.call(1);
+f.call(2);
+//= true
+//= small
+//= large

@@ -74,3 +74,24 @@ print(!index);
 print(!inner);
 //= true
 //= false
+//--- whether a variable is declared
+let x = 1;
+print(is_def_var("x"));
+const Y = 2;
+print(is_def_var("Y"));
+{ let inner = 1; print(is_def_var("inner")); }
+for item in [1] { print(is_def_var("item")); }
+fn f(param) { is_def_var("param") }
+print(f(1));
+//= true
+//= true
+//= true
+//= true
+//= true
+//--- methods of truth values
+print(true.to_string() + "!");
+print(false.to_string().len());
+print(true.type_of());
+//= true!
+//= 5
+//= bool

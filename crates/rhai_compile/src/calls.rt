@@ -25,10 +25,11 @@ impl<F: Fn(&mut Emitter, &Expr, usize, bool) -> Result<(), CompileError>> Coder<
         ensures placed { OnOk result (AddsPlaces emitter.old emitter.new
             (both (here place) (list_places arguments.now))) }
     {
-        match (callee_of(emitter.pools.names.get(name)), arguments) {
+        match (emitter.target_of(name, arguments), arguments) {
             (CallTarget::Evaluated, _) => {
                 Err(CompileError::new(place, Problem::Unsupported(Thing::Eval)))
             }
+            (CallTarget::Defined, _) => emitter.put(place, Op::Bool(true), 0, 1),
             (CallTarget::Shared, [argument]) => self.is_shared(emitter, place, argument),
             (CallTarget::Pointer, [argument]) => {
                 self.expr(emitter, argument, true)?;

@@ -9,7 +9,7 @@ use crate::writing::argc_of;
 use grain_base::pos::Site;
 use grain_code::{Op, Receiver};
 use rhai_errors::CompileError;
-use rhai_syntax::{Expr, Form};
+use rhai_syntax::{Expr, Form, Literal};
 use std::collections::HashSet;
 
 /// What a call of a name is.
@@ -25,6 +25,8 @@ pub enum CallTarget {
     Shared,
     /// A text is evaluated.
     Evaluated,
+    /// Whether a local variable is declared, which is so.
+    Defined,
     /// Any other function.
     Function,
 }
@@ -63,11 +65,40 @@ impl Emitter {
         }
     }
 
-    /// Whether an expression is a local constant. What changes it is given a copy.
+    /// Whether a name is that of a function of the script, and of no local variable. Its value is a pointer to the function.
+    pub(crate) fn is_pointer(&self, name: u32) -> bool {
+        self.declared.has_name(name) && self.scope.find(name).is_none()
+    }
+
+    /// Whether an expression is a local constant, or a function by its name. What changes it is given a copy.
     pub fn is_constant(&self, from: &Expr) -> bool {
         match &from.form {
-            Form::Name(name) => self.scope.find(*name).is_some_and(|found| found.is_const),
+            Form::Name(name) => match self.scope.find(*name) {
+                Some(found) => found.is_const,
+                None => self.declared.has_name(*name),
+            },
             _ => false,
+        }
+    }
+
+    /// What a call of the name with these arguments is. `is_def_var` is a function of the host, except for the name of a local
+    /// variable, of which the host knows nothing.
+    pub fn target_of(&self, name: u32, arguments: &[Expr]) -> CallTarget {
+        let name = self.pools.names.get(name);
+        match arguments {
+            [argument] if name == "is_def_var" && self.is_defined(argument) => CallTarget::Defined,
+            _ => callee_of(name),
+        }
+    }
+
+    /// Whether an expression is a text that names a local variable.
+    fn is_defined(&self, from: &Expr) -> bool {
+        let Form::Literal(Literal::Text(text)) = &from.form else {
+            return false;
+        };
+        match self.pools.names.find(self.pools.texts.get(*text)) {
+            Some(name) => self.scope.find(name).is_some(),
+            None => false,
         }
     }
 

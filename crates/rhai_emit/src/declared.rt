@@ -12,6 +12,8 @@ pub(crate) struct Declared {
     functions: HashSet<(u32, usize, Option<u32>)>,
     /// The names with these numbers of parameters.
     counts: HashSet<(u32, usize)>,
+    /// The names of those that are declared for no receiver.
+    names: HashSet<u32>,
 }
 
 impl Declared {
@@ -20,6 +22,7 @@ impl Declared {
         Declared {
             functions: HashSet::new(alloc),
             counts: HashSet::new(alloc),
+            names: HashSet::new(alloc),
         }
     }
 
@@ -34,12 +37,20 @@ impl Declared {
             return Err(CompileError::new(function.place, Problem::Repeated(Thing::Function)));
         }
         let _is_new = self.counts.insert((name, count))?;
+        if function.this_type.is_none() {
+            let _is_new = self.names.insert(name)?;
+        }
         Ok(())
     }
 
     /// Whether there is a function of that name with this many parameters, for any receiver.
     pub(crate) fn has(&self, name: u32, count: usize) -> bool {
         self.counts.contains(&(name, count))
+    }
+
+    /// Whether there is one of that name that is declared for no receiver.
+    pub(crate) fn has_name(&self, name: u32) -> bool {
+        self.names.contains(&name)
     }
 
     /// Whether there is one that is declared for no receiver, as a call by name finds it.

@@ -63,12 +63,15 @@ impl Emitter {
         }
     }
 
-    /// The value of a variable.
+    /// The value of a variable, or a pointer to the function of that name.
     pub fn load(&mut self, place: Site, name: u32) -> Result<(), CompileError>
         requires { self.old.code.level.floor ≤ self.old.code.operands }
         ensures written { OnOk result (IsWritten self.old self.new (self.old.code.operands + 1)) }
         ensures placed { OnOk result (AddsPlaces self.old self.new (here place)) }
     {
+        if self.is_pointer(name) {
+            return self.put(place, Op::MakeClosure(name), 0, 1);
+        }
         match self.find(place, name)? {
             Some(found) => self.put(place, Op::LoadLocal(found.slot), 0, 1),
             None => self.put(place, Op::LoadNamed(name), 0, 1),

@@ -82,6 +82,8 @@ pub enum Thing {
     ParameterName,
     /// `|`
     Pipe,
+    /// A property of a map that is written out.
+    Property,
     /// The name of a property of a map.
     PropertyName,
     /// `}`
@@ -149,6 +151,7 @@ impl Thing {
             Thing::Parameter => "parameter",
             Thing::ParameterName => "the name of a parameter",
             Thing::Pipe => "`|`",
+            Thing::Property => "property",
             Thing::PropertyName => "the name of a property",
             Thing::RightBrace => "`}`",
             Thing::RightBracket => "`]`",
@@ -196,6 +199,9 @@ pub enum Problem {
     /// The word or the sign is reserved.
     #[error("this is reserved and has no meaning")]
     Reserved,
+    /// The name is that of a function of the language, and can't be declared.
+    #[error("this name is reserved for a function of the language")]
+    ReservedName,
     /// Something else is expected here.
     #[error("{0} is expected here")]
     Expected(Thing),
@@ -223,6 +229,12 @@ pub enum Problem {
     /// The case `_` of a switch has a condition.
     #[error("the case `_` can't have a condition")]
     DefaultCondition,
+    /// The case `_` of a switch comes before others.
+    #[error("the case `_` must be the last one")]
+    DefaultNotLast,
+    /// `try` is where a value is needed.
+    #[error("`try` is a statement, and has no value")]
+    TryAsValue,
     /// Expressions nest too deep.
     #[error("expressions nest too deep here")]
     TooDeep,

@@ -5,7 +5,7 @@ use crate::names::Names;
 use crate::scan::{Scan, begins_name, continues_name};
 use grain_base::pos::Site;
 use rhai_errors::{CompileError, Problem};
-use std::alloc::Global;
+use std::alloc::{AllocError, Global};
 
 /// Lexemes, with the names and the texts that they have by their indices.
 #[derive(Drop)]
@@ -34,7 +34,7 @@ struct Lexer<'s> {
 /// # Errors
 /// The first part of the text that is no lexeme, or the allocator refused.
 pub fn split_into_lexemes(alloc: Global, source: &str) -> Result<Lexemes, CompileError> {
-    let text: Vec<char> = source.chars().collect(alloc)?;
+    let text = characters(alloc, source)?;
     let found = Lexemes {
         list: Vec::new(alloc),
         names: Names::new(alloc),
@@ -50,6 +50,19 @@ pub fn split_into_lexemes(alloc: Global, source: &str) -> Result<Lexemes, Compil
     lexer.scan.skip_shebang();
     lexer.split()?;
     Ok(lexer.found)
+}
+
+/// The characters of a source text. A byte order mark at its start is none of them, nor is a carriage return before a line feed,
+/// so that no literal has either.
+fn characters(alloc: Global, source: &str) -> Result<Vec<char>, AllocError> {
+    let mut text = Vec::new(alloc);
+    for c in source.strip_prefix('\u{feff}').unwrap_or(source).chars() {
+        if c == '\n' && text.last() == Some(&'\r') {
+            let _ = text.pop();
+        }
+        text.push(c)?;
+    }
+    Ok(text)
 }
 
 impl<'s> Lexer<'s> {

@@ -38,6 +38,11 @@ impl Names {
         Ok(index)
     }
 
+    /// The index of the text, if it is there.
+    pub fn find(&self, name: &str) -> Option<u32> {
+        self.indices.get(name).copied()
+    }
+
     /// The text at an index, or the empty text if there is none.
     pub fn get(&self, index: u32) -> &str {
         match self.list.get(index as usize) {

@@ -135,11 +135,24 @@ impl Cursor {
         }
     }
 
-    /// Goes past a name, and returns it with its place.
+    /// Goes past the name of a variable, which is no name that is reserved for a function, and returns it with its place.
     pub(crate) fn binding(&mut self, thing: Thing) -> Result<Binding, CompileError> {
         let place = self.place();
         let name = self.name(thing)?;
+        if names_no_variable(self.names.get(name)) {
+            return Err(CompileError::new(place, Problem::ReservedName));
+        }
         Ok(Binding { name, place })
+    }
+
+    /// Goes past the name of a function that is declared.
+    pub(crate) fn function_name(&mut self) -> Result<u32, CompileError> {
+        let place = self.place();
+        let name = self.name(Thing::FunctionName)?;
+        if names_no_declared_function(self.names.get(name)) {
+            return Err(CompileError::new(place, Problem::ReservedName));
+        }
+        Ok(name)
     }
 
     /// Goes past a name.
@@ -222,6 +235,17 @@ impl Cursor {
         }
     }
 
+    /// Goes past `()`, if it comes next.
+    pub(crate) fn eat_unit(&mut self) -> bool {
+        match (self.peek().kind, self.ahead(1).kind) {
+            (Kind::Mark(Mark::LeftParen), Kind::Mark(Mark::RightParen)) => {}
+            _ => return false,
+        }
+        self.go();
+        self.go();
+        true
+    }
+
     /// Whether `|` comes next.
     pub(crate) fn is_at_pipe(&self) -> bool {
         match self.peek().kind {
@@ -300,5 +324,22 @@ impl Cursor {
     /// The expression of a form that begins at the place.
     pub(crate) fn expr(&self, place: Site, form: Form) -> Expr {
         Expr { place, form }
+    }
+}
+
+/// Whether no variable may have the name, since it is reserved for a function.
+fn names_no_variable(name: &str) -> bool {
+    match name {
+        "print" | "debug" => true,
+        name => names_no_declared_function(name),
+    }
+}
+
+/// Whether no function that is declared may have the name, since a call of it has a meaning of its own.
+fn names_no_declared_function(name: &str) -> bool {
+    match name {
+        "Fn" | "call" | "curry" | "eval" | "type_of" => true,
+        "is_def_fn" | "is_def_var" | "is_shared" => true,
+        _ => false,
     }
 }

@@ -21,6 +21,9 @@ const MAX_PARAMS: usize = 255;
 /// A precedence above those of all operators between operands.
 pub(crate) const ALONE: u8 = 255;
 
+/// As [`ALONE`], where a statement begins: `try` may only be there.
+pub(crate) const STATEMENT: u8 = 254;
+
 /// The rules, at a depth.
 #[derive(Clone, Copy)]
 pub(crate) struct Grammar<F> {
@@ -151,6 +154,9 @@ impl<F: Fn(&mut Cursor, usize, u8) -> Result<Expr, CompileError>> Grammar<F> {
     fn level(&self, cursor: &mut Cursor, least: u8) -> Result<Expr, CompileError>
         requires { (c : _) (least : _) → F.pre self.now.reads c self.now.depth least }
     {
+        if least != STATEMENT && cursor.is_at(Mark::Try) {
+            return Err(cursor.fault(Problem::TryAsValue));
+        }
         let first = self.operand(cursor)?;
         let operations = self.operations(cursor, least)?;
         if operations.is_empty() {
@@ -219,7 +225,7 @@ impl<F: Fn(&mut Cursor, usize, u8) -> Result<Expr, CompileError>> Grammar<F> {
         let is_private = cursor.eat(Mark::Private);
         cursor.expect(Mark::Fn, Thing::Fn)?;
         let this_type = this_type(cursor)?;
-        let name = cursor.name(Thing::FunctionName)?;
+        let name = cursor.function_name()?;
         let opened = cursor.place();
         cursor.expect(Mark::LeftParen, Thing::LeftParen)?;
         let params = params(cursor, opened)?;

@@ -6,6 +6,7 @@ use crate::grammar::{ALONE, Grammar, add_param};
 use grain_base::pos::Site;
 use rhai_errors::{CompileError, Problem, Thing};
 use rhai_lexer::{Kind, Mark, Operator};
+use std::collections::HashSet;
 
 impl<F: Fn(&mut Cursor, usize, u8) -> Result<Expr, CompileError>> Grammar<F> {
     /// An operand with the operators before it and the steps after it.
@@ -34,7 +35,10 @@ impl<F: Fn(&mut Cursor, usize, u8) -> Result<Expr, CompileError>> Grammar<F> {
     {
         cursor.go();
         match operator {
-            Operator::Pipe | Operator::Or => self.closure(cursor, place, operator),
+            Operator::Pipe | Operator::Or => {
+                let closure = self.closure(cursor, place, operator)?;
+                self.stepped(cursor, closure)
+            }
             Operator::Plus => self.expr(cursor, ALONE),
             Operator::Minus | Operator::Bang => {
                 let operand = self.expr(cursor, ALONE)?;
@@ -82,9 +86,12 @@ impl<F: Fn(&mut Cursor, usize, u8) -> Result<Expr, CompileError>> Grammar<F> {
         requires { (c : _) (least : _) → F.pre self.now.reads c self.now.depth least }
     {
         match mark {
-            Mark::True => literal(cursor, place, Literal::Bool(true)),
-            Mark::False => literal(cursor, place, Literal::Bool(false)),
-            Mark::LeftParen | Mark::LeftBracket | Mark::MapBrace | Mark::This => {
+            Mark::LeftParen
+            | Mark::LeftBracket
+            | Mark::MapBrace
+            | Mark::This
+            | Mark::True
+            | Mark::False => {
                 let root = self.bracketed(cursor, place, mark)?;
                 self.stepped(cursor, root)
             }
@@ -106,6 +113,8 @@ impl<F: Fn(&mut Cursor, usize, u8) -> Result<Expr, CompileError>> Grammar<F> {
                 let entries = self.entries(cursor, place)?;
                 Ok(cursor.expr(place, Form::Map(entries)))
             }
+            Mark::True => Ok(cursor.expr(place, Form::Literal(Literal::Bool(true)))),
+            Mark::False => Ok(cursor.expr(place, Form::Literal(Literal::Bool(false)))),
             _ => Ok(cursor.expr(place, Form::This)),
         }
     }
@@ -127,11 +136,12 @@ impl<F: Fn(&mut Cursor, usize, u8) -> Result<Expr, CompileError>> Grammar<F> {
         requires { (c : _) (least : _) → F.pre self.now.reads c self.now.depth least }
     {
         let mut entries = Vec::new(cursor.alloc);
+        let mut seen = HashSet::new(cursor.alloc);
         for _turn in 0..cursor.left() {
             if cursor.eat(Mark::RightBrace) {
                 return Ok(entries);
             }
-            entries.push(self.entry(cursor)?)?;
+            entries.push(self.entry(cursor, &mut seen)?)?;
             if !cursor.eat(Mark::Comma) {
                 cursor.close(Mark::RightBrace, Thing::RightBrace, opened)?;
                 return Ok(entries);
@@ -140,10 +150,11 @@ impl<F: Fn(&mut Cursor, usize, u8) -> Result<Expr, CompileError>> Grammar<F> {
         Err(cursor.fault(Problem::Unclosed(Thing::RightBrace, opened)))
     }
 
-    fn entry(&self, cursor: &mut Cursor) -> Result<Entry, CompileError>
+    /// A property of a map, whose name none of those before it has.
+    fn entry(&self, cursor: &mut Cursor, seen: &mut HashSet<u32>) -> Result<Entry, CompileError>
         requires { (c : _) (least : _) → F.pre self.now.reads c self.now.depth least }
     {
-        let name = cursor.property_text()?;
+        let name = new_property(cursor, seen)?;
         cursor.expect(Mark::Colon, Thing::Colon)?;
         let value = self.expr(cursor, 0)?;
         Ok(Entry { name, value })
@@ -290,6 +301,16 @@ impl<F: Fn(&mut Cursor, usize, u8) -> Result<Expr, CompileError>> Grammar<F> {
         }
         Ok(Part::Property(name))
     }
+}
+
+/// The name of a property that is next, which isn't among those that were seen.
+fn new_property(cursor: &mut Cursor, seen: &mut HashSet<u32>) -> Result<u32, CompileError> {
+    let place = cursor.place();
+    let name = cursor.property_text()?;
+    if !seen.insert(name)? {
+        return Err(CompileError::new(place, Problem::Repeated(Thing::Property)));
+    }
+    Ok(name)
 }
 
 /// A literal, which is the next lexeme.

@@ -2,7 +2,7 @@
 
 use crate::ast::{Access, Arm, Binding, Branch, Case, Catch, Expr, Form, Literal, Part};
 use crate::cursor::Cursor;
-use crate::grammar::{ALONE, Grammar};
+use crate::grammar::{Grammar, STATEMENT};
 use grain_base::pos::Site;
 use rhai_errors::{CompileError, Problem, Thing};
 use rhai_lexer::{Kind, Mark, Operator};
@@ -66,7 +66,7 @@ impl<F: Fn(&mut Cursor, usize, u8) -> Result<Expr, CompileError>> Grammar<F> {
             ))),
             Kind::Mark(Mark::Import) => Err(cursor.fault(Problem::Unsupported(Thing::Import))),
             Kind::Mark(Mark::Export) => Err(cursor.fault(Problem::Unsupported(Thing::Export))),
-            Kind::Mark(mark) if begins_block(mark) => self.expr(cursor, ALONE),
+            Kind::Mark(mark) if begins_block(mark) => self.expr(cursor, STATEMENT),
             Kind::Mark(mark) if leaves(mark) => self.leaving(cursor, place, mark),
             _ => self.assignment(cursor, place),
         }
@@ -265,11 +265,12 @@ impl<F: Fn(&mut Cursor, usize, u8) -> Result<Expr, CompileError>> Grammar<F> {
     fn arms(&self, cursor: &mut Cursor, opened: Site) -> Result<Vec<Arm>, CompileError>
         requires { (c : _) (least : _) → F.pre self.now.reads c self.now.depth least }
     {
-        let mut arms = Vec::new(cursor.alloc);
+        let mut arms: Vec<Arm> = Vec::new(cursor.alloc);
         for _turn in 0..cursor.left() {
             if cursor.eat(Mark::RightBrace) {
                 return Ok(arms);
             }
+            check_no_default(cursor, &arms)?;
             let arm = self.arm(cursor)?;
             let is_closed = ends_itself(&arm.body.form);
             arms.push(arm)?;
@@ -313,6 +314,16 @@ impl<F: Fn(&mut Cursor, usize, u8) -> Result<Expr, CompileError>> Grammar<F> {
     }
 }
 
+/// The next arm doesn't follow that of the case `_`, unless it repeats that case.
+fn check_no_default(cursor: &Cursor, arms: &[Arm]) -> Result<(), CompileError> {
+    match arms.last() {
+        Some(arm) if has_any(&arm.cases) && !cursor.is_at(Mark::Underscore) => {
+            Err(CompileError::new(arm.place, Problem::DefaultNotLast))
+        }
+        _ => Ok(()),
+    }
+}
+
 /// Whether one of the cases is `_`.
 fn has_any(cases: &[Case]) -> bool {
     for case in cases {
@@ -339,6 +350,9 @@ fn cases(cursor: &mut Cursor) -> Result<Vec<Case>, CompileError> {
 fn case(cursor: &mut Cursor) -> Result<Case, CompileError> {
     if cursor.eat(Mark::Underscore) {
         return Ok(Case::Any);
+    }
+    if cursor.eat_unit() {
+        return Ok(Case::Value(Literal::Unit));
     }
     let from = case_literal(cursor)?;
     let is_inclusive = match cursor.peek().kind {
