@@ -304,6 +304,5 @@ print(s);
 //! Function not found
 //--- an op-assignment to a character
 let s = "abc";
-s[1] += 1;
+s[1] += "x";
 //! Data type incorrect: expecting a character
-//@ 2:3
