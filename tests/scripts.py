@@ -35,7 +35,7 @@ PAGE = HERE.parent.parent / "docs" / "LANGUAGE.md"
 # What the page writes in code and isn't part of a script that runs: patterns, and forms that are refused.
 PATTERNS = {
     "${..}", r"""\n \r \t \\ \" \' \xHH \uHHHH \UHHHHHHHH""", "++ -- === !== :=", "module::name", "f!(..)", "obj.call(f, ..)",
-    "m.f(..)", "m.f.call(..)", "x[a..b]", "x.f(y)", "World", "a.b.f()",
+    "m.f(..)", "x[a..b]", "x.f(y)", "World", "a.b.f()",
 }
 MARKS = ("//=", "//!", "//@")
 SECONDS = 60

@@ -123,10 +123,10 @@ print(is_shared(x));
 //= 1
 //= true
 
-//--- what differs from the Book
-let m = #{ f: |x| x + 1 };
-print(m.f.call(1));
-print((true).to_string());
+//--- functions of object maps and of values
+let m = #{ f: |x| x + this.k, k: 1 };
+print(m.f(1));
+print(true.to_string());
 let x = "abc";
 print(x.len);
 print(`x is ${x.len + 1}`);

@@ -107,7 +107,8 @@ fn a_map_is_its_rows(rt: HostRuntime) -> Result<(), Fail> {
 fn a_shared_variable_is_not_written(rt: HostRuntime) -> Result<(), Fail> {
     let alloc = rt.alloc();
     let mut flat = FlatValues::new(alloc);
-    let bound = vec![in alloc; text(alloc, "x")?, Value::Shared(0)]?;
+    let shared = Value::Shared(Rc::new(alloc, 0usize)?);
+    let bound = vec![in alloc; text(alloc, "x")?, shared]?;
     let pointer = Pointer::new(String::from_str(alloc, "f")?, bound);
     let pointer = Value::Pointer(Rc::new(alloc, pointer)?);
     assert!(rt; flat.write(&text(alloc, "first")?).is_ok());

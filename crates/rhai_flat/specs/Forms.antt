@@ -31,7 +31,7 @@ flat_step (Value-F.Blob b) = blob b.value.items
 flat_step (Value-F.Map m) = m.value
 flat_step (Value-F.Pointer p) = p.value
 flat_step (Value-F.Foreign f) = foreign_form f.value
-flat_step (Value-F.Shared i) = host [] i
+flat_step (Value-F.Shared i) = host [] i.value
 
 abbrev pub flat_list_step : List-F Form Form Form Form → Form
 flat_list_step l = array (forms_of l.items.items)

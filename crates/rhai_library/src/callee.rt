@@ -66,7 +66,7 @@ pub fn operate_at(alloc: Global, number: u8, values: &[Value]) -> Result<Option<
         return Ok(None);
     };
     match values {
-        [value] => negate(&operator, value),
+        [value] => negate(alloc, &operator, value),
         [left, right] => {
             let mut left = left.clone()?;
             operate(alloc, &operator, &mut left, right)

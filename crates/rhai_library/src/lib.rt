@@ -15,6 +15,7 @@ mod items;
 mod maps;
 mod numbers;
 mod operators;
+mod overflows;
 mod parts;
 mod places;
 mod scalars;

@@ -2,6 +2,7 @@
 
 use crate::bits;
 use crate::function::Function;
+use crate::overflows::negation_overflow;
 use rhai_values::{Cause, Value};
 use std::alloc::Global;
 
@@ -25,7 +26,7 @@ fn alone(alloc: Global, function: Function, number: i64) -> Result<Option<Value>
     let value = match function {
         Function::Abs => match number.checked_abs() {
             Some(number) => Value::Int(number),
-            None => return Err(Cause::Overflow),
+            None => return Err(negation_overflow(alloc, number)),
         },
         Function::Sign => Value::Int(number.signum()),
         Function::IsZero => Value::Bool(number == 0),

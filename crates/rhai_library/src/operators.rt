@@ -1,5 +1,6 @@
 //! Operators by their tokens.
 
+use crate::overflows::{negation_overflow, overflow};
 use crate::words;
 use grain_base::Token;
 use rhai_values::{Cause, Text, Value, are_equal, order};
@@ -47,7 +48,7 @@ pub fn operate_on(
         return Ok(None);
     };
     match rest.first() {
-        None => negate(operator, left),
+        None => negate(alloc, operator, left),
         Some(right) => operate(alloc, operator, left, right),
     }
 }
@@ -125,7 +126,7 @@ pub fn operate_on_integers(
         Token::Minus | Token::MinusAssign => x.checked_sub(y),
         Token::Multiply | Token::MultiplyAssign => x.checked_mul(y),
         Token::Divide | Token::DivideAssign | Token::Modulo | Token::ModuloAssign if y == 0 => {
-            return Err(Cause::DivisionByZero);
+            return Err(overflow(alloc, operator, x, y));
         }
         Token::Divide | Token::DivideAssign => x.checked_div(y),
         Token::Modulo | Token::ModuloAssign => x.checked_rem(y),
@@ -139,7 +140,7 @@ pub fn operate_on_integers(
     };
     match number {
         Some(number) => Ok(Some(Value::Int(number))),
-        None => Err(Cause::Overflow),
+        None => Err(overflow(alloc, operator, x, y)),
     }
 }
 
@@ -255,12 +256,12 @@ fn push_shown(alloc: Global, text: &mut Rc<Text>, value: &Value) -> Result<(), C
 /// What an operator before its only operand gives. `None` means that it doesn't take such an operand.
 ///
 /// # Errors
-/// [`Cause::Overflow`].
-pub fn negate(operator: &Token, value: &Value) -> Result<Option<Value>, Cause> {
+/// [`Cause::Overflow`], or out of memory.
+pub fn negate(alloc: Global, operator: &Token, value: &Value) -> Result<Option<Value>, Cause> {
     match (operator, value) {
         (Token::UnaryMinus | Token::Minus, Value::Int(x)) => match x.checked_neg() {
             Some(number) => Ok(Some(Value::Int(number))),
-            None => Err(Cause::Overflow),
+            None => Err(negation_overflow(alloc, *x)),
         },
         (Token::UnaryPlus | Token::Plus, Value::Int(x)) => Ok(Some(Value::Int(*x))),
         (Token::Bang, Value::Bool(x)) => Ok(Some(Value::Bool(!*x))),

@@ -41,7 +41,7 @@ impl Cause {
             Cause::NoFunction(_) => "ErrorFunctionNotFound",
             Cause::NoProperty(_) => "ErrorPropertyNotFound",
             Cause::WrongType(_) => "ErrorMismatchDataType",
-            Cause::Overflow | Cause::DivisionByZero => "ErrorArithmetic",
+            Cause::Overflow(_) | Cause::DivisionByZero(_) => "ErrorArithmetic",
             Cause::OutOfBounds(_) => "ErrorArrayBounds",
             Cause::NoThis => "ErrorUnboundThis",
             Cause::TooDeep => "ErrorStackOverflow",

@@ -17,10 +17,10 @@ pub enum Cause {
     NoProperty(String),
     /// A value is of another type than this.
     WrongType(&'static str),
-    /// A result doesn't fit 64 bits.
-    Overflow,
-    /// A divisor is zero.
-    DivisionByZero,
+    /// A result doesn't fit 64 bits: the text has the operation.
+    Overflow(String),
+    /// A divisor is zero: the text has the operation.
+    DivisionByZero(String),
     /// No item lies at this index.
     OutOfBounds(i64),
     /// `this` is used in a function that wasn't called on a value.
@@ -108,8 +108,7 @@ impl fmt::Display for Cause {
             Cause::NoFunction(name) => write!(f, "Function not found: {name}"),
             Cause::NoProperty(name) => write!(f, "Property not found: {name}"),
             Cause::WrongType(wanted) => write!(f, "Data type incorrect: expecting {wanted}"),
-            Cause::Overflow => f.write_str("Arithmetic overflow"),
-            Cause::DivisionByZero => f.write_str("Division by zero"),
+            Cause::Overflow(text) | Cause::DivisionByZero(text) => f.write_str(text.as_str()),
             Cause::OutOfBounds(index) => write!(f, "Index out of bounds: {index}"),
             Cause::NoThis => f.write_str("'this' not bound"),
             Cause::TooDeep => f.write_str("Stack overflow"),

@@ -26,7 +26,7 @@ pub fn are_equal(left: &Value, right: &Value) -> bool {
             x.name() == y.name() && are_items_equal(&x.bound, &y.bound)
         }
         (Value::Foreign(x), Value::Foreign(y)) => **x == **y,
-        (Value::Shared(x), Value::Shared(y)) => x == y,
+        (Value::Shared(x), Value::Shared(y)) => **x == **y,
         _ => false,
     }
 }

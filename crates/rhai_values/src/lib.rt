@@ -24,6 +24,7 @@ mod measure;
 mod path;
 mod places;
 mod plain;
+mod shares;
 mod show;
 mod text;
 mod value;

@@ -37,9 +37,9 @@ pub enum Value {
     Pointer(Rc<Pointer>),
     /// A value of the host's own.
     Foreign(Rc<Foreign>),
-    /// A variable that closures share: its index among the shared ones of the script. It lies in local variables and among
-    /// bound arguments alone.
-    Shared(usize),
+    /// A variable that closures share: its index among the shared ones of the script, with how many values refer to it. It lies in
+    /// local variables and among bound arguments alone.
+    Shared(Rc<usize>),
 }
 
 impl Value {

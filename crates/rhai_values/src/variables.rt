@@ -3,6 +3,7 @@
 use crate::cause::Cause;
 use crate::frames::{Call, Lent, This, Variable};
 use crate::path::swapped;
+use crate::shares::Shares;
 use crate::value::Value;
 use std::alloc::{AllocError, Global};
 
@@ -15,8 +16,8 @@ pub struct Variables {
     base: usize,
     /// By the index of the name.
     named: Vec<Option<Value>>,
-    /// What slots share: a slot holds the index.
-    shared: Vec<Value>,
+    /// What slots share: a slot holds what refers to it.
+    shared: Shares,
     calls: Vec<Call>,
     /// The values of `this` of the calls that have one. Few have, so that calls stay small.
     receivers: Vec<This>,
@@ -31,7 +32,7 @@ impl Variables {
             locals: Vec::new(alloc),
             base: 0,
             named: Vec::new(alloc),
-            shared: Vec::new(alloc),
+            shared: Shares::new(alloc),
             calls: Vec::new(alloc),
             receivers: Vec::new(alloc),
         }
@@ -62,7 +63,7 @@ impl Variables {
     #[must_use]
     pub fn value(&self, slot: u16) -> Option<&Value> {
         match self.locals.get(self.place(slot))? {
-            Value::Shared(index) => self.shared.get(*index),
+            Value::Shared(index) => self.shared.get(**index),
             value => Some(value),
         }
     }
@@ -105,10 +106,9 @@ impl Variables {
     /// As [`raw`](Variables::raw).
     pub fn local_mut(&mut self, slot: u16) -> Result<&mut Value, Cause> {
         let alloc = self.alloc;
-        let place = self.place(slot);
-        match self.shared_at(place) {
-            Some(index) => slot_in(alloc, self.shared.as_mut_slice(), index, slot),
-            None => slot_in(alloc, self.locals.as_mut_slice(), place, slot),
+        match self.value_mut(slot) {
+            Some(value) => Ok(value),
+            None => Err(no_slot(alloc, slot)),
         }
     }
 
@@ -116,7 +116,7 @@ impl Variables {
     #[inline(always)]
     fn shared_at(&self, place: usize) -> Option<usize> {
         match self.locals.get(place) {
-            Some(Value::Shared(index)) => Some(*index),
+            Some(Value::Shared(index)) => Some(**index),
             _ => None,
         }
     }
@@ -185,14 +185,12 @@ impl Variables {
     /// # Errors
     /// As [`raw`](Variables::raw), or out of memory: then the variable is lost.
     pub fn share(&mut self, slot: u16) -> Result<(), Cause> {
-        let index = self.shared.len();
         let place = self.place(slot);
         match self.locals.get_mut(place) {
             Some(Value::Shared(_)) => Ok(()),
             Some(local) => {
                 let value = local.take();
-                *local = Value::Shared(index);
-                self.shared.push(value)?;
+                *local = Value::Shared(self.shared.add(value)?);
                 Ok(())
             }
             None => Err(no_slot(self.alloc, slot)),
@@ -204,13 +202,11 @@ impl Variables {
     /// # Errors
     /// [`Cause::NoVariable`], without the name, if there is none; or out of memory: then the variable is lost.
     pub fn share_named(&mut self, name: u32) -> Result<(), Cause> {
-        let index = self.shared.len();
         match self.named.get_mut(name as usize) {
             Some(Some(Value::Shared(_))) => Ok(()),
             Some(Some(variable)) => {
                 let value = variable.take();
-                *variable = Value::Shared(index);
-                self.shared.push(value)?;
+                *variable = Value::Shared(self.shared.add(value)?);
                 Ok(())
             }
             _ => Err(Cause::NoVariable(String::new(self.alloc))),
@@ -230,7 +226,7 @@ impl Variables {
     #[must_use]
     pub fn named(&self, name: u32) -> Option<&Value> {
         match self.raw_named(name)? {
-            Value::Shared(index) => self.shared.get(*index),
+            Value::Shared(index) => self.shared.get(**index),
             value => Some(value),
         }
     }
@@ -249,7 +245,7 @@ impl Variables {
     /// What the variable of a name shares, if it does.
     fn shared_named(&self, name: u32) -> Option<usize> {
         match self.raw_named(name) {
-            Some(Value::Shared(index)) => Some(*index),
+            Some(Value::Shared(index)) => Some(**index),
             _ => None,
         }
     }
@@ -384,19 +380,6 @@ impl Variables {
         };
         let _ = swapped(place, path.as_slice(), value)?;
         Ok(())
-    }
-}
-
-/// The value at a place, for the slot.
-fn slot_in(
-    alloc: Global,
-    values: &mut [Value],
-    place: usize,
-    slot: u16,
-) -> Result<&mut Value, Cause> {
-    match values.get_mut(place) {
-        Some(value) => Ok(value),
-        None => Err(no_slot(alloc, slot)),
     }
 }
 
