@@ -1,5 +1,6 @@
 #!/usr/bin/env python3
-"""Whether `grain` keeps the old file where a write fails, and whether what it writes grows with the file alone (docs/COMMAND.md).
+"""Whether `grain` keeps the old file if a write fails, whether what it writes grows with the file alone (docs/COMMAND.md), and
+whether a run frees what nothing refers to.
 
     python3 tests/command_limits.py GRAIN
 
@@ -73,12 +74,34 @@ def check_growth(grain):
         expect(grain.done("parse", "-", given=grain.done("print", file)) == grain.read(file), "a long name doesn't come back")
 
 
+def check_captured(grain):
+    """What closures captured is freed when they are gone: 640 MB in all, of which 32 MB are kept."""
+    script = b"""
+let kept = [];
+for i in 0..2000 {
+    let list = [];
+    list.pad(20000, i);
+    let len = || list.len();
+    if i % 20 == 0 { kept.push(len); }
+}
+let sum = 0;
+for len in kept { sum += len.call(); }
+sum
+"""
+
+    def bounded():
+        resource.setrlimit(resource.RLIMIT_AS, (300_000_000, 300_000_000))
+
+    status, text, errors = grain.run("run", "-", given=script, preexec_fn=bounded)
+    expect((status, text, errors) == (0, b"2000000\n", b""), f"closures that are gone keep memory: {status}, {errors!r}")
+
+
 def main():
     if len(sys.argv) != 2:
         sys.exit(__doc__)
     with tempfile.TemporaryDirectory() as folder:
         grain = Program(sys.argv[1], folder)
-        for check in (check_version, check_full, check_positions, check_protected, check_growth):
+        for check in (check_version, check_full, check_positions, check_protected, check_growth, check_captured):
             check(grain)
     print("limits of grain: well")
 

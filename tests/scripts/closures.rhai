@@ -108,3 +108,24 @@ print(res);
 let f = |x| x.len();
 print(f.call("abc"));
 //= 3
+//--- closures that are kept see what they captured, however many were made since
+let kept = [];
+for i in 0..20000 {
+    let n = i;
+    let f = || n;
+    if i % 1000 == 0 { kept.push(f); }
+}
+let sum = 0;
+for f in kept { sum += f.call(); }
+print(sum);
+kept.clear();
+let count = 0;
+for i in 0..20000 {
+    let n = i;
+    let more = || n += 1;
+    more.call();
+    if n == i + 1 { count += 1; }
+}
+print(count);
+//= 190000
+//= 20000
