@@ -298,10 +298,15 @@ fn object_of(alloc: Global, path: &str, found: &Found) -> Result<Vec<u8>, AllocE
 /// Reads and verifies a file, says what it is, and returns whether it is accepted.
 fn visit(rt: &HostRuntime, report: Report, path: &str) -> Result<bool, Failure> {
     let found = found_of(rt, report.allowed, path)?;
+    show(rt, report, path, &found)
+}
+
+/// Says what a file is, and returns whether it is accepted.
+fn show(rt: &HostRuntime, report: Report, path: &str, found: &Found) -> Result<bool, Failure> {
     if report.json {
-        write_standard(rt, &object_of(rt.alloc(), path, &found)?)?;
+        write_standard(rt, &object_of(rt.alloc(), path, found)?)?;
     } else {
-        say(rt, report, path, &found)?;
+        say(rt, report, path, found)?;
     }
     Ok(matches!(found, Found::Accepted(..)))
 }
