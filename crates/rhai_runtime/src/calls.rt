@@ -379,47 +379,87 @@ impl<W: World + Drop> Script<W> {
                 .begin_bound(&first, arguments, None, self.at)?;
             return Ok(Reply::Call { function });
         }
-        self.call_in_place(program, name, variable, arguments)
+        if let Some(value) = self.library_in_place(program, name, variable, arguments)? {
+            return Ok(Reply::Value(value));
+        }
+        if let Some(reply) = self.begin_typed(program, name, variable, arguments)? {
+            return Ok(reply);
+        }
+        self.call_outside_on(program, name, variable, arguments)
     }
 
-    /// Calls a function of the library on the value of a variable, in place, one that is declared for its type, or another one on a
-    /// copy.
-    fn call_in_place(
+    /// Calls a function of the library on the value of a variable, in place. `None` if it has none that takes these arguments.
+    fn library_in_place(
+        &mut self,
+        program: &Program,
+        name: u32,
+        variable: Variable,
+        arguments: &[Value],
+    ) -> Result<Option<Value>, Cause> {
+        let Some(Callee::Library(function)) = self.table.callee(name) else {
+            return Ok(None);
+        };
+        let alloc = self.alloc;
+        let limits = self.limits;
+        let receiver = self.variable_mut(program, variable)?;
+        let given = call(alloc, limits, function, receiver, arguments);
+        if !limits.allow(receiver.measure()) {
+            return Err(Cause::TooLarge);
+        }
+        given
+    }
+
+    /// Begins a function that is declared for the type of a variable, which is its `this`, if there is one.
+    fn begin_typed(
         &mut self,
         program: &Program,
         name: u32,
         variable: Variable,
         arguments: &mut [Value],
+    ) -> Result<Option<Reply<Value>>, Cause>
+        ensures { IfOk result (λ given. IfSome given (NamesFunction program.now)) }
+    {
+        let Some(function) = self.typed_for(program, name, variable, arguments.len())? else {
+            return Ok(None);
+        };
+        let this = self.lent(program, variable)?;
+        self.variables
+            .begin_bound(&[], arguments, Some(this), self.at)?;
+        Ok(Some(Reply::Call { function }))
+    }
+
+    /// The function that is declared for the type of a variable, if there is one.
+    fn typed_for(
+        &self,
+        program: &Program,
+        name: u32,
+        variable: Variable,
+        argc: usize,
+    ) -> Result<Option<usize>, Cause>
+        ensures { IfOk result (λ given. IfSome given (λ function. function < length program.now.functions)) }
+    {
+        let value = self.variable(program, variable)?;
+        Ok(self.table.typed(program, name, argc, value))
+    }
+
+    /// Calls a function of the embedding program on a variable: it does so while the run waits, or gets a copy.
+    fn call_outside_on(
+        &mut self,
+        program: &Program,
+        name: u32,
+        variable: Variable,
+        arguments: &[Value],
     ) -> Result<Reply<Value>, Cause>
         ensures { IfOk result (NamesFunction program.now) }
     {
-        let alloc = self.alloc;
-        let limits = self.limits;
         let callee = self.table.callee(name);
-        if let Some(Callee::Library(function)) = callee {
-            let receiver = self.variable_mut(program, variable)?;
-            let given = call(alloc, limits, function, receiver, arguments);
-            if !limits.allow(receiver.measure()) {
-                return Err(Cause::TooLarge);
-            }
-            if let Some(value) = given? {
-                return Ok(Reply::Value(value));
-            }
-        }
-        let value = self.variable(program, variable)?;
-        if let Some(function) = self.table.typed(program, name, arguments.len(), value) {
-            let this = self.lent(program, variable)?;
-            self.variables
-                .begin_bound(&[], arguments, Some(this), self.at)?;
-            return Ok(Reply::Call { function });
-        }
         let count = arguments.len().saturating_add(1);
         let text = program.names().get(name).unwrap_or("");
         if callee.is_none() && self.world.is_awaited(text, count) {
             self.wait_in_place(program, text, variable, arguments)?;
             return Ok(Reply::Wait);
         }
-        let mut all = Vec::new(alloc);
+        let mut all = Vec::new(self.alloc);
         all.push(self.variable(program, variable)?.clone()?)?;
         for argument in arguments {
             all.push(argument.clone()?)?;
