@@ -162,7 +162,7 @@ let m = #{ a: #{ b: [7, 8] } }; m.a.b[1]
 try { 1 / 0 } catch (e) { 7 }
 //--- let r = 0; try { r = 1 / 0; } catch (e) { r = e.message; } r
 let r = 0; try { r = 1 / 0; } catch (e) { r = e.message; } r
-//= Division by zero
+//= Division by zero: 1 / 0
 //--- let r = 0; try { throw 42; } catch (e) { r = e + 1; } r
 let r = 0; try { throw 42; } catch (e) { r = e + 1; } r
 //= 43
