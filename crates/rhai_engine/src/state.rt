@@ -270,6 +270,8 @@ impl State {
                 event
             }
             stage => {
+                // It is dropped by a call, since its drop here would be a case for each cause in the proof.
+                drop(cause);
                 self.last = stage;
                 Event::Idle
             }
