@@ -36,7 +36,7 @@ mod tests {
     fn a_result_a_fault_and_a_refusal_are_shown() {
         assert_eq!(answer(FIB).unwrap(), 6765.into());
         let fault = answer(DIVIDE).unwrap_err().to_string();
-        assert_eq!(fault, "Division by zero (line 3, position 7)");
+        assert_eq!(fault, "Division by zero: 10 / 0 (line 3, position 7)");
         let cut = answer(&FIB[..80]).unwrap_err().to_string();
         assert!(cut.contains("in the code"), "{cut}");
         let mut hostile = FIB.to_vec();
