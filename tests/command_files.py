@@ -88,9 +88,10 @@ def check_page(grain):
 
 # A program with something in each list, by docs/FORMAT.md: all roots, steps and tails, and the greatest numbers.
 FULL = bytes.fromhex(
-    "0067726e0100 09" + 2 * "ffffffffffffffffff01" + "0113 0001ac02"
-    # A private function with two parameters for a receiver, names, -64, ^= and => of the host, and an op-assignment.
-    "01 01 0200ac02 01 0101 000102  02 00 02c3a9  01 037f  02 26 27023d3e  01 1c01 00c801"
+    "0067726e0200 09" + 2 * "ffffffffffffffffff01" + "0113 0001ac02"
+    # A private function with two parameters for a receiver, names, -64, a NaN with all bits set, ^= and => of the host, and an
+    # op-assignment.
+    "01 01 0200ac02 01 0101 000102  02 00 02c3a9  02 037f 0dffffffffffffffffff01  02 26 27023d3e  01 1c01 00c801"
     # Four chains, of which the first has three steps.
     "04 01f0a204010205 03 00ac020100010200 010102030100 020405060100 010109 9003"
     "00070800010000 0200000000 03000000"

@@ -121,7 +121,7 @@ class Files:
         return name + parameters + access + self.option(lambda: self.below(32)) + self.chunk()
 
     def value(self, depth=3):
-        tag = self.chance.randrange(13 if depth else 8)
+        tag = self.chance.choice([*range(14)] if depth else [*range(8), 13])
         holds = {
             3: self.signed,
             4: lambda: number(self.chance.choice([0, 65, 0xD7FF, 0xE000, 0x10FFFF])),
@@ -133,6 +133,7 @@ class Files:
             10: lambda: self.map(depth - 1),
             11: lambda: self.text() + self.list(lambda: self.value(depth - 1)),
             12: lambda: self.value(depth - 1),
+            13: lambda: number(self.chance.choice([0, 1 << 63, 0x3FF8 << 48, 0x7FF8 << 48, self.chance.getrandbits(64)])),
         }
         return bytes([tag]) + holds.get(tag, bytes)()
 
@@ -191,14 +192,14 @@ class Files:
         if self.chance.random() < 0.001:
             constants, switch = self.many_cases()
             switches = b"\1" + switch
-        head = b"\0grn\1\0" + self.caps() + self.below(64) + self.below(64) + self.code() + self.chunk()
+        head = b"\0grn\2\0" + self.caps() + self.below(64) + self.below(64) + self.code() + self.chunk()
         pools = self.list(self.function) + self.list(self.text) + number(len(constants)) + b"".join(constants)
         code = self.list(self.operator) + self.list(self.op_assignment) + self.list(self.chain)
         tail = self.option(self.text) + self.option(lambda: self.list(self.position))
         return head + pools + code + switches + tail
 
     def sidecar(self):
-        return b"\0grn\1\1" + self.below(64) + self.below(64) + self.bytes() + self.bytes()
+        return b"\0grn\2\1" + self.below(64) + self.below(64) + self.bytes() + self.bytes()
 
     def near_miss(self, data):
         """The bytes with a change."""

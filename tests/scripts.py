@@ -111,7 +111,9 @@ def unshown():
     """What docs/LANGUAGE.md shows of the language, and no case has. `.ci/documents` calls it, before anything is proved."""
     page = PAGE.read_text()
     shown = page[page.index("## Lexemes"):page.index("## Limits")]
-    text = "\n".join(path.read_text() for path in HERE.glob("*.rhai"))
+    # The cases of modules need several files.
+    paths = [*HERE.glob("*.rhai"), HERE.parent / "command" / "modules.txt"]
+    text = "\n".join(path.read_text() for path in paths)
     for span in dict.fromkeys(re.findall(r"(?<!`)``? ?(.+?) ?``?(?!`)", shown)):
         call = re.fullmatch(r"(\w+)\(.*\)", span)
         has_call = call and f"{call[1]}(" in text

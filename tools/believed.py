@@ -1,16 +1,16 @@
 #!/usr/bin/env python3
 """Prints what has to be believed of a promise: the definitions that a contract rests on, in reading order.
 
-    tools/believed.py               of each public contract of the headline: how many definitions, files and lines
+    tools/believed.py               of each public contract of the headline and of the calls that README names: how many definitions, files and lines
     tools/believed.py FUNCTION      of one of them, file by file, each behind those that it uses
     tools/believed.py --text [FUNCTION]      of `verify`, or of one of them, as one text: each definition, and what the kit's words mean
     tools/believed.py --write       writes the list of `verify` to docs/reference/belief.md
     tools/believed.py --check       fails where that file isn't up to date
 
-What a clause names and a `ghost use` brings is a definition of some specs/; what that names is one, and so on. Where a contract
+What a clause names and a `ghost use` brings is a definition of some specs/; what that names is one, and so on. If a contract
 or a definition speaks of a type of the code, or of one whose fields have it, what contracts see of it (`ghost view` in its
-`impl Model`) is a definition as well. Lines are those of the definitions, without comments and without what is empty. The
-fields of types and the words of the kit are listed and not counted.
+`impl Model`) is a definition as well; `self` speaks of the type of its `impl`. Lines are those of the definitions, without
+comments and blank lines. The fields of types and the words of the kit are listed and not counted.
 """
 import pathlib
 import re
@@ -33,13 +33,32 @@ FUNCTIONS = {
     "build": "grain/src/builder.rt",
 }
 
+# The other calls that README names, and the exports that verify.
+OTHERS = {
+    "load": "grain_file/src/loading.rt",
+    "tighten": "grain_flat_file/src/changed.rt",
+    "compile": "rhai_compile/src/programs.rt",
+    "Runnable::run": "grain_machine/src/run.rt",
+    "Runnable::resume": "grain_machine/src/run.rt",
+    "grain_proved_verify_with": "grain_c/src/verify.rt",
+    "grain_proved_file_verify": "grain_c/src/files.rt",
+    "grain_proved_file_tighten": "grain_c/src/changed.rt",
+    "grain_proved_session_compile": "grain_engine_c/src/opening.rt",
+    "grain_proved_session_load": "grain_engine_c/src/opening.rt",
+    "grain_proved_session_resume": "grain_engine_c/src/calls.rt",
+}
+SOURCES = {**FUNCTIONS, **OTHERS}
+
 WORD = re.compile(r"[A-Za-z_][\w']*")
 TYPE = re.compile(r"^pub(?:\(crate\))? (?:struct|enum) (\w+)[^;]*?(?:\{\n(.*?)^\}|;)", re.M | re.S)
 MODEL = re.compile(r"^impl(?:<[^>]*>)? Model for (\w+)[^{]*\{\n(.*?)^\}", re.M | re.S)
 VIEW = re.compile(r"^    (ghost (?:Value|view) = .*?\};)$", re.M | re.S)
 KIT = re.compile(r"^(?:ghost )?(?:pub )?use Rattle\.(std|bitflags)\.specs\.([\w.]+)\.\{(.*)\};?$", re.M)
-USE = re.compile(r"^(?:ghost )?(?:pub )?use Rattle\.(grain\w*)\.specs\.([\w.]+?)(?:\.\{(.*)\})?(?: as (\w+))?;?$", re.M)
-BEGINS = re.compile(r"^(?:abbrev pub|pub record|pub data|pub) ([^\s:(]+)(?=[\s:(])")
+USE = re.compile(r"^(?:ghost )?(?:pub )?use Rattle\.((?:grain|rhai)\w*)\.specs\.([\w.]+?)(?:\.\{(.*)\})?(?: as (\w+))?;?$", re.M)
+# A definition begins with its name behind these words, or with its name and its type, also in a block `mutual`.
+KEYED = re.compile(r"^(?:(?:abbrev|unfoldable|opaque|pub|record|data) )+([^\s:({]+)(?=[\s:({])")
+TYPED = re.compile(r"^([^\s:({]+)(?: \{[^}]*\})* :(?=\s)")
+MUTUAL = re.compile(r"^(?:(?:abbrev|unfoldable) )?mutual$")
 
 
 def uses(text):
@@ -60,12 +79,21 @@ def uses(text):
 
 def blocks(text):
     """The definitions of a file, in order, each with the lines that count."""
-    found, name = {}, None
+    found, name, indent = {}, None, ""
     for line in text.splitlines():
-        begins = BEGINS.match(line)
-        if begins and begins[1] not in ("mod", "use"):
-            name = begins[1]
-            found.setdefault(name, [])
+        if MUTUAL.match(line):
+            name, indent = None, "  "
+            continue
+        if line[:1].strip():
+            indent = ""
+        rest = line.removeprefix(indent)
+        if not rest.startswith((" ", "use ", "pub use ", "module ", "--")):
+            begins = KEYED.match(rest) or TYPED.match(rest)
+            first = rest.split(" ")[0]
+            # (a line `name pattern = value` belongs to the definition of that name)
+            name = begins[1] if begins else first if first in found else name
+            if begins:
+                found.setdefault(name, [])
         if name and line.strip() and not line.lstrip().startswith("--"):
             found[name].append(line)
     return found
@@ -180,11 +208,16 @@ def kit_words(files, seen):
 
 def contract(function):
     """The clauses of a function, and what its file brings. What its parameters are is part of them."""
-    text = (CRATES / FUNCTIONS[function]).read_text()
-    name = function.split("::")[-1]
-    head = next(it for it in re.finditer(rf"^ *pub fn {name}\b(.*?)\n *\{{\n", text, re.M | re.S) if "::" not in function or stands_in(text, it.start(), function.split("::")[0]))
+    text = (CRATES / SOURCES[function]).read_text()
+    owner, _, name = function.rpartition("::")
+    head = next(
+        it
+        for it in re.finditer(rf'^ *pub (?:extern "C" )?fn {name}\b(.*?)\n *\{{(?:\}})?\n', text, re.M | re.S)
+        if not owner or stands_in(text, it.start(), owner)
+    )
     signature, clauses = re.split(r"(?=requires|ensures)", head[1], maxsplit=1)
-    return clauses, uses(text), {word for word in WORD.findall(signature) if word[0].isupper()}
+    types = {word for word in WORD.findall(signature) if word[0].isupper()}
+    return clauses, uses(text), types | ({owner} if re.search(r"\bself\b", clauses) else set())
 
 
 def stands_in(text, at, owner):
@@ -195,7 +228,7 @@ def stands_in(text, at, owner):
 
 def rests_on(files, function):
     clauses, brought, types = contract(function)
-    crate = FUNCTIONS[function].split("/")[0]
+    crate = SOURCES[function].split("/")[0]
     wanted = list(named(files, brought, {}, None, clauses))
     return closure(files, wanted + [place for name in types for place in views(files, TYPES, crate, name)])
 
@@ -238,7 +271,21 @@ def page(files):
     text += ["", "| File of the kit | Words |", "|---|---|"]
     for (library, file), words in sorted(kit_words(files, seen).items()):
         text.append(f"| {library}, {file} | {', '.join(f'`{word}`' for word in sorted(words))} |".replace("||", "\\|\\|"))
+    text += [
+        "",
+        "Other calls rest on more, or on less. Laws that a definition carries, such as those of a format of files, are counted with it. `tools/believed.py --text CALL` prints what a call rests on.",
+        "",
+        "| Call | Definitions | Lines | Lines that `verify` lacks |",
+        "|---|---|---|---|",
+    ]
+    for function in OTHERS:
+        rest = rests_on(files, function)
+        text.append(f"| `{function}` | {len(rest)} | {lines_of(files, rest)} | {lines_of(files, rest - seen)} |")
     return "\n".join(text) + "\n"
+
+
+def lines_of(files, seen):
+    return sum(len(files[crate, path][1][name]) for crate, path, name in seen)
 
 
 def place_of(crate, path):
@@ -300,7 +347,7 @@ def main():
         for (crate, path), names, size in by_file(files, rests_on(files, sys.argv[1])):
             print(f"{size:4} {place_of(crate, path)}: {', '.join(names)}")
     else:
-        for function in FUNCTIONS:
+        for function in SOURCES:
             rows = list(by_file(files, rests_on(files, function)))
             print(f"{function}: {sum(len(names) for _, names, _ in rows)} definitions in {len(rows)} files, {sum(size for _, _, size in rows)} lines")
 

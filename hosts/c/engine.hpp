@@ -23,6 +23,7 @@ class Values {
         : rows_(from.rows, from.rows + from.rows_len), texts_(from.texts, from.texts + from.texts_len), count_(from.count) {}
 
     Values &add(std::int64_t number) { return add_row(grain_integer(number)); }
+    Values &add_float(double number) { return add_row(grain_float(number)); }
     Values &add_bool(bool value) { return add_row(grain_bool(value)); }
     Values &add_unit() { return add_row(grain_unit()); }
     Values &add_foreign(std::int64_t kind, std::int64_t number) {
@@ -41,8 +42,9 @@ class Values {
     std::uint32_t count() const { return count_; }
     const std::vector<grain_value> &rows() const { return rows_; }
 
-    // The integer, or the text, that a row is. It throws if the row is something else.
+    // The integer, the float, or the text, that a row is. It throws if the row is something else.
     std::int64_t integer(std::size_t row) const { return row_of(row, GRAIN_VALUE_INTEGER).number; }
+    double number(std::size_t row) const { return grain_double(&row_of(row, GRAIN_VALUE_FLOAT)); }
     std::string text(std::size_t row) const {
         const grain_value &found = row_of(row, GRAIN_VALUE_TEXT);
         const auto from = texts_.begin() + static_cast<std::ptrdiff_t>(found.number);

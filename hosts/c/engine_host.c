@@ -33,13 +33,20 @@ static int64_t hundred = 100;
 static const grain_host_function functions[] = {{"limit", 0, limit, &hundred}, {"double", 1, twice, NULL}, {"fetch", 1, fetch, NULL}};
 enum { FUNCTIONS = sizeof functions / sizeof *functions };
 
+static void print_number(const grain_value *row) {
+    if (row->tag == GRAIN_VALUE_FLOAT)
+        printf("%g\n", grain_double(row));
+    else
+        printf("%lld\n", (long long)row->number);
+}
+
 /* Runs what has begun, and prints how it ends. */
 static int run(grain_state *state) {
     char text[1024];
     grain_asked returned;
     grain_event event = grain_run(state, functions, FUNCTIONS, TURNS);
     if (event == GRAIN_EVENT_RETURNED && grain_state_asked(state, &returned) == GRAIN_ACCEPTED)
-        return printf("%lld\n", (long long)returned.values.rows[0].number), 0;
+        return print_number(&returned.values.rows[0]), 0;
     if (event == GRAIN_EVENT_FAULTED && grain_state_fault(state, text, sizeof text) != 0)
         return puts(text), 1;
     return puts(event == GRAIN_EVENT_PAUSED ? "out of turns" : "out of memory"), 1;

@@ -83,7 +83,7 @@ static void code(size_t groups, size_t constants, size_t names) {
 }
 
 static void head(void) {
-    static const uint8_t magic[] = {0, 'g', 'r', 'n', 1, 0, 0xff, 0xff, 1, 7, 0};
+    static const uint8_t magic[] = {0, 'g', 'r', 'n', 2, 0, 0xff, 0xff, 1, 7, 0};
     len = sizeof magic;
     memcpy(bytes, magic, sizeof magic);
 }

@@ -38,7 +38,7 @@ void grain_dealloc(void *block) {
 
 /* Two functions, a name, constants of each tag, operators, an op-assignment, chains, a switch, a source and positions. */
 static const uint8_t sample[] = {
-    0x00, 'g', 'r', 'n', 0x01, 0x00,
+    0x00, 'g', 'r', 'n', 0x02, 0x00,
     0xff, 0xff, 0x01,                                     /* capabilities 0x7fff */
     0x07, 0x09,                                           /* number */
     0x04, 0x01, 0x00, 0x00, 0x13,                         /* Const(0), Return */
@@ -46,13 +46,14 @@ static const uint8_t sample[] = {
     0x02, 0x00, 0x02, 0x01, 0x00, 0x00, 0x00, 0x00, 0x04, 0x02, /* of two parameters, public, of no type */
     0x01, 0x00, 0x01, 0x01, 0x01, 0x00, 0x04, 0x01,       /* private, for receivers of a type */
     0x02, 0x03, 'l', 'e', 'n', 0x02, 0xc3, 0xa9,          /* names */
-    0x0d, 0x00, 0x01, 0x02, 0x03, 0x53, 0x04, 0xe9, 0x01, /* unit, false, true, -42, é */
+    0x0e, 0x00, 0x01, 0x02, 0x03, 0x53, 0x04, 0xe9, 0x01, /* unit, false, true, -42, é */
     0x05, 0x02, 'h', 'i', 0x06, 0x02, 0x04, 0x07, 0x02, 0x04, /* "hi", 1..2, 1..=2 */
     0x08, 0x02, 0x03, 0x02, 0x08, 0x00,                   /* [1, []] */
     0x09, 0x02, 0xff, 0x00,                               /* a blob */
     0x0a, 0x02, 0x01, 'a', 0x00, 0x01, 'b', 0x05, 0x01, 'c', /* #{a: (), b: "c"} */
     0x0b, 0x01, 'f', 0x01, 0x03, 0x08,                    /* f with 4 bound */
     0x0c, 0x03, 0x0a,                                     /* a shared 5 */
+    0x0d, 0x80, 0x80, 0x80, 0x80, 0x80, 0x80, 0x80, 0x82, 0x40, /* 2.5 */
     0x02, 0x00, 0x27, 0x02, '<', '>',                     /* + and <> */
     0x01, 0x1c, 0x00, 0x00, 0x01,                         /* += for + */
     0x03, 0x00, 0x03, 0x01, 0x01, 0x00, 0x00, 0x01, 0x00, 0x00, /* slot 3, len; index 0 with a flag, at none */
@@ -74,6 +75,13 @@ static grain_status reads(const uint8_t *bytes, size_t len, grain_file **file) {
     CHECK((status == GRAIN_MALFORMED) == (grain_read_error_text(&error, text, sizeof text) != 0));
     CHECK(status != GRAIN_MALFORMED || error.at <= len);
     return status;
+}
+
+/* The double whose bits a row has. */
+static double double_of(const grain_value *row) {
+    double number;
+    memcpy(&number, &row->number, sizeof number);
+    return number;
 }
 
 static void all_is_read(void) {
@@ -100,11 +108,13 @@ static void all_is_read(void) {
     CHECK(all->functions[1].is_private && all->functions[1].is_typed && all->functions[1].this_type == 1);
     CHECK(all->parameters_len == 2 && all->parameters[0] == 1 && all->parameters[1] == 0);
     CHECK(pools->starts_len == 3 && pools->starts[1] == 3 && pools->names_len == 5);
-    CHECK(all->constants_len == 13 && all->constants[6] == 6 && all->constants[7] == 9 && all->values_len == 26);
+    CHECK(all->constants_len == 14 && all->constants[6] == 6 && all->constants[7] == 9 && all->values_len == 27);
     CHECK(all->values[3].tag == GRAIN_VALUE_INTEGER && all->values[3].number == -42 && all->values[4].number == 0xe9);
     CHECK(all->values[5].tag == GRAIN_VALUE_TEXT && all->values[5].count == 2 && all->texts[all->values[5].number] == 'h');
     CHECK(all->values[7].number == 1 && all->values[8].number == 2 && all->values[12].tag == GRAIN_VALUE_ARRAY);
-    CHECK(pools->constants_len == 13 && pools->constants[12].is_known == 0 && pools->constants[8].caps == GRAIN_CAP_ARRAY);
+    CHECK(all->values[26].tag == GRAIN_VALUE_FLOAT && double_of(&all->values[26]) == 2.5);
+    CHECK(pools->constants[13].is_known == 1 && pools->constants[13].caps == 0);
+    CHECK(pools->constants_len == 14 && pools->constants[12].is_known == 0 && pools->constants[8].caps == GRAIN_CAP_ARRAY);
     CHECK(pools->operators == 2 && all->operators_len == 4 && all->operators[1].tag == GRAIN_VALUE_TEXT);
     CHECK(all->operator_texts_len == 2 && all->operators[2].number == 28 && all->op_assignments[0].op_name == 1);
     CHECK(pools->chains_len == 3 && pools->chains[0].slot == 3 && pools->chains[2].slot == 0 && all->step_flags[0] == 1);
@@ -151,7 +161,7 @@ static void files_are_verified(void) {
 /* Which function a call finds: the first of the name's text and as many parameters, for receivers of no type. */
 static void callees_are_found(void) {
     static const uint8_t bytes[] = {
-        0x00, 'g', 'r', 'n', 0x01, 0x00, 0x01, 0x00, 0x00, 0x02, 0x02, 0x13, 0x00, 0x02, 0x01, /* Unit, Return */
+        0x00, 'g', 'r', 'n', 0x02, 0x00, 0x01, 0x00, 0x00, 0x02, 0x02, 0x13, 0x00, 0x02, 0x01, /* Unit, Return */
         0x06, 0x01, 0x00, 0x00, 0x01, 0x02, 0x00, 0x02, 0x01, /* f of no parameters, for receivers of the type g */
         0x02, 0x00, 0x00, 0x00, 0x00, 0x02, 0x01,             /* g */
         0x01, 0x00, 0x00, 0x00, 0x00, 0x02, 0x01,             /* f, by its second name */
@@ -223,7 +233,7 @@ static void files_are_tightened(void) {
 
 /* The sidecar file of what a file has. */
 static rewritten sidecar_of(const grain_contents *all) {
-    static const uint8_t head[] = {0x00, 'g', 'r', 'n', 0x01, 0x01};
+    static const uint8_t head[] = {0x00, 'g', 'r', 'n', 0x02, 0x01};
     rewritten out = {NULL, 0, 0, false};
     for (size_t i = 0; i < sizeof head; i++)
         put_byte(&out, head[i]);
@@ -295,7 +305,7 @@ static void places_that_no_sidecar_gives_back_stay(void) {
         {4, 0x00, 0x00, 0x00, 0x00},
     };
     static const size_t lengths[] = {7, 6, 8, 5};
-    static const uint8_t program[] = {0x00, 'g', 'r', 'n', 0x01, 0x00, 0x00, 0x07, 0x00, 0x04, 0x01, 0x00, 0x00, 0x13, 0x00, 0x04,
+    static const uint8_t program[] = {0x00, 'g', 'r', 'n', 0x02, 0x00, 0x00, 0x07, 0x00, 0x04, 0x01, 0x00, 0x00, 0x13, 0x00, 0x04,
                                       0x01, 0x00, 0x00, 0x01, 0x03, 0x2a, 0x00, 0x00, 0x00, 0x00, 0x00, 0x01};
     for (size_t i = 0; i < LENGTH(files); i++) {
         uint8_t given[64], bytes[64], sidecar_bytes[64];

@@ -2,7 +2,7 @@
  * that go in come out again, nothing leaks. In a part of the runs an allocation is refused, and in a part each block ends at a
  * page that can't be touched. For libFuzzer, with a corpus as for fuzz.c:
  *
- *     clang -g -O1 -fsanitize=fuzzer,address,undefined hosts/c/fuzz_engine.c hosts/out/libgrain.a -o hosts/out/fuzz_engine
+ *     clang -g -O1 -fsanitize=fuzzer,address,undefined hosts/c/fuzz_engine.c hosts/out/libgrain.a -lm -o hosts/out/fuzz_engine
  *     hosts/out/fuzz_engine -max_len=4096 -max_total_time=600 hosts/out/found hosts/out/corpus
  */
 #define _DEFAULT_SOURCE

@@ -261,7 +261,8 @@ typedef GRAIN_ENUM(grain_value_tag) {
     GRAIN_VALUE_FN_PTR = 11,         /* a text follows, its name, and then count bound values */
     GRAIN_VALUE_SHARED = 12,         /* the value follows */
     GRAIN_VALUE_HOST = 13,           /* no file has one */
-    GRAIN_VALUE_OPERATOR = 14        /* number (FORMAT.md); only among operators */
+    GRAIN_VALUE_OPERATOR = 14,       /* number (FORMAT.md); only among operators */
+    GRAIN_VALUE_FLOAT = 15           /* number: the 64 bits of a double, which memcpy(&d, &number, sizeof d) gives */
 } grain_value_tag;
 
 /* In place of the index of a chunk: the refusal is of none. */

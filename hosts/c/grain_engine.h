@@ -18,11 +18,15 @@
  *
  * One thread at a time may use a state, for calls that read it too. Different threads may use states that share a program. The
  * other rules of grain.h hold. Memory is taken by grain_alloc, as much as grain_bounds allows. A refused allocation is a result,
- * and ends at most the run. */
+ * and ends at most the run.
+ *
+ * Functions of scripts on floats are those of the C library's mathematics: a program with these calls links -lm behind libgrain.a. */
 #ifndef GRAIN_ENGINE_H
 #define GRAIN_ENGINE_H
 
 #include "grain.h"
+
+#include <string.h>
 
 #ifdef __cplusplus
 extern "C" {
@@ -72,6 +76,18 @@ static inline grain_value grain_bool(bool value) {
 static inline grain_value grain_integer(int64_t number) {
     grain_value row = {GRAIN_VALUE_INTEGER, 0, number};
     return row;
+}
+/* A float crosses as its 64 bits. Of NaN there is one: it comes back with other bits than it had, perhaps. */
+static inline grain_value grain_float(double number) {
+    grain_value row = {GRAIN_VALUE_FLOAT, 0, 0};
+    memcpy(&row.number, &number, sizeof number);
+    return row;
+}
+/* The double of a row with the tag GRAIN_VALUE_FLOAT. */
+static inline double grain_double(const grain_value *row) {
+    double number;
+    memcpy(&number, &row->number, sizeof number);
+    return number;
 }
 static inline grain_value grain_text(int64_t from, uint32_t len) {
     grain_value row = {GRAIN_VALUE_TEXT, len, from};

@@ -24,6 +24,13 @@ static void show_refusal(const uint8_t *bytes, size_t length, const grain_refusa
     grain_file_free(file);
 }
 
+static void print_number(const grain_value *row) {
+    if (row->tag == GRAIN_VALUE_FLOAT)
+        printf("result %g\n", grain_double(row));
+    else
+        printf("result %lld\n", (long long)row->number);
+}
+
 /* Runs the top level, and prints how it ends. */
 static int run(grain_state *state) {
     char text[1024];
@@ -32,7 +39,7 @@ static int run(grain_state *state) {
     if (grain_state_begin(state, NULL, 0, NULL) == GRAIN_ACCEPTED)
         event = grain_state_resume(state, TURNS, NULL);
     if (event == GRAIN_EVENT_RETURNED && grain_state_asked(state, &returned) == GRAIN_ACCEPTED) {
-        printf("result %lld\n", (long long)returned.values.rows[0].number);
+        print_number(&returned.values.rows[0]);
         return 0;
     }
     if (event == GRAIN_EVENT_FAULTED && grain_state_fault(state, text, sizeof text) != 0)

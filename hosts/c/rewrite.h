@@ -72,11 +72,14 @@ static const grain_value *put_values(rewritten *out, const grain_contents *conte
     return value;
 }
 
-/* Writes the value that begins at a row, and returns the row behind it. */
+/* Writes the value that begins at a row, and returns the row behind it. A file has another tag for a float than a row. */
 static const grain_value *put_value(rewritten *out, const grain_contents *contents, const grain_value *value) {
     const grain_value *next = value + 1;
-    put_byte(out, (uint8_t)value->tag);
+    put_byte(out, value->tag == GRAIN_VALUE_FLOAT ? 13 : (uint8_t)value->tag);
     switch (value->tag) {
+    case GRAIN_VALUE_FLOAT:
+        put_number(out, (uint64_t)value->number);
+        return next;
     case GRAIN_VALUE_INTEGER:
         put_signed(out, value->number);
         return next;
@@ -284,7 +287,7 @@ static void put_positions(rewritten *out, const grain_contents *contents) {
 
 /* The file again. The caller frees its bytes. */
 static rewritten rewrite(const grain_contents *contents) {
-    static const uint8_t head[] = {0, 'g', 'r', 'n', 1, 0};
+    static const uint8_t head[] = {0, 'g', 'r', 'n', 2, 0};
     rewritten out = {NULL, 0, 0, false};
     for (size_t i = 0; i < sizeof head; i++)
         put_byte(&out, head[i]);

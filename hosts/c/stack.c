@@ -151,7 +151,7 @@ static void put_bytes(const char *bytes, size_t len) {
 
 static void write_file(uint32_t depth) {
     file_len = 0;
-    put_bytes("\0grn\1\0\0\0\0\2\2\x13\0\2\1\0\0\1", 18);
+    put_bytes("\0grn\2\0\0\0\0\2\2\x13\0\2\1\0\0\1", 18);
     for (uint32_t i = 1; i < depth; i++) {
         static const char *const opened[] = {"\x08\1", "\x0a\1\1a", "\x0b\1f\1"};
         put_bytes(opened[i % 3], strlen(opened[i % 3]));

@@ -3,6 +3,7 @@
 #include "grain_engine.h"
 
 #include "checks.h"
+#include <math.h>
 #include <stdlib.h>
 #include <string.h>
 
@@ -45,6 +46,7 @@ static const char script[] = "let calls = 0;\n"
                              "fn known() { shown }\n"
                              "fn grown() { let x = 3; x.double(); x }\n"
                              "fn divide(n) {\n  1 / n\n}\n"
+                             "fn half(x) { x / 2 }\n"
                              "calls + 40 + double(1)";
 
 static grain_values one(const grain_value *row, const char *text) {
@@ -191,6 +193,34 @@ static void try_values(grain_state *state) {
     CHECK(grain_state_resume(state, 1, NULL) == GRAIN_EVENT_IDLE);
 }
 
+/* What a function of the script returns for a float. */
+static grain_value float_of(grain_state *state, const char *name, double number) {
+    grain_value row = grain_float(number);
+    grain_values argument = one(&row, NULL);
+    grain_asked asked;
+    CHECK(begin(state, name, &argument) == GRAIN_ACCEPTED && grain_state_resume(state, 1000, NULL) == GRAIN_EVENT_RETURNED);
+    CHECK(grain_state_asked(state, &asked) == GRAIN_ACCEPTED && asked.values.count == 1 && asked.values.rows_len == 1);
+    CHECK(asked.values.rows[0].tag == GRAIN_VALUE_FLOAT && asked.values.rows[0].count == 0);
+    return asked.values.rows[0];
+}
+
+/* The bits of a float cross, its sign among them; those of each NaN become those of one. */
+static void try_floats(grain_state *state) {
+    static const double numbers[] = {0.0, -0.0, 0.1, -1.5, 1e308, 4.9e-324, HUGE_VAL, -HUGE_VAL};
+    for (size_t i = 0; i < LENGTH(numbers); i++)
+        CHECK(float_of(state, "same", numbers[i]).number == grain_float(numbers[i]).number);
+    static const int64_t nans[] = {0x7ff8000000000000, 0x7ff0000000000001, -1, -0x8000000000000};
+    for (size_t i = 0; i < LENGTH(nans); i++) {
+        grain_value row = {GRAIN_VALUE_FLOAT, 0, nans[i]};
+        CHECK(float_of(state, "same", grain_double(&row)).number == 0x7ff8000000000000);
+    }
+    grain_value quarter = float_of(state, "half", 0.5), used = grain_float(1.0);
+    CHECK(grain_double(&quarter) == 0.25);
+    used.count = 1;
+    grain_values bad = one(&used, NULL);
+    CHECK(begin(state, "same", &bad) == GRAIN_BAD_VALUE);
+}
+
 /* A value of the host's own is in use until a variable has another value. */
 static void try_foreign(grain_state *state) {
     grain_value rows[4], other = grain_unit();
@@ -320,6 +350,7 @@ int main(void) {
     try_runs(state);
     try_faults(state);
     try_values(state);
+    try_floats(state);
     try_foreign(state);
     try_variables(state);
     try_files(state);

@@ -65,4 +65,6 @@ fn main() {
     );
     println!("cargo:rustc-link-search=native={}", folder.display());
     println!("cargo:rustc-link-lib=static=grain");
+    // Functions of scripts on floats are those of the C library's mathematics.
+    println!("cargo:rustc-link-lib=m");
 }

@@ -82,7 +82,7 @@ def stripped(data):
         table, before = table + number(address - before) + number(line) + number(column), address
     stream = number(len(parts.chains)) + b"".join(number(n) for _start, _end, place in parts.chains for n in place or (0, 0))
     low, high = (value for _start, _end, value in parts.reader.numbers[1:3])
-    return bare, b"\0grn\1\1" + number(low) + number(high) + number(len(table)) + table + number(len(stream)) + stream
+    return bare, b"\0grn\2\1" + number(low) + number(high) + number(len(table)) + table + number(len(stream)) + stream
 
 
 def tightened(data, depths):

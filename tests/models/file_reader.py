@@ -98,7 +98,7 @@ def read_value(r, depth):
     """The value, as what it is without its shared marks."""
     if depth == 0:
         raise Fault(r.at, "TooDeep")
-    tag = r.tag(13)
+    tag = r.tag(14)
     if tag <= 2:
         return (tag,)
     if tag == 3:
@@ -121,6 +121,8 @@ def read_value(r, depth):
         return (tag, read_entries(r, depth - 1))
     if tag == 11:
         return (tag, r.text(), tuple(r.list(lambda: read_value(r, depth - 1))))
+    if tag == 13:
+        return (tag, r.number())
     return read_value(r, depth - 1)
 
 
@@ -227,7 +229,7 @@ def read_switch(r, constants):
 def read_head(r, kind):
     for byte in b"\x00grn":
         r.expect(byte, "Magic")
-    r.expect(1, "Version")
+    r.expect(2, "Version")
     r.expect(kind, "Kind")
 
 

@@ -55,8 +55,15 @@ class Random:
     def integer(self):
         return self.random.choice([0, 1, -1, -(1 << 63), (1 << 63) - 1, self.below(1 << 20)])
 
+    def float_bits(self):
+        """0.0, -0.0, 1.5, infinity, a NaN, the smallest number and the greatest, all bits, and any."""
+        known = [0, 1 << 63, 0x3FF8 << 48, 0x7FF0 << 48, 0xFFF8 << 48, 1, (0x7FF0 << 48) - 1, (1 << 64) - 1]
+        return self.random.choice([*known, self.random.getrandbits(64)])
+
     def value(self, depth=3):
-        kind = self.below(13 if depth else 8)
+        kind = self.below(14 if depth else 9)
+        if not depth and kind == 8:
+            kind = 13
         if kind < 3:
             return bytes([kind])
         if kind == 3:
@@ -77,7 +84,9 @@ class Random:
             return b"\x0a" + listed([text(key) + self.value(depth - 1) for key in keys])
         if kind == 11:
             return b"\x0b" + text(self.word()) + self.many(lambda: self.value(depth - 1))
-        return b"\x0c" + self.value(depth - 1)
+        if kind == 12:
+            return b"\x0c" + self.value(depth - 1)
+        return b"\x0d" + number(self.float_bits())
 
     def token(self):
         tag = self.below(40)
@@ -134,7 +143,7 @@ class Random:
         constants = [b"\3" + signed(at) for at in range(self.below(4))]
         others = [self.value() for _ in range(self.below(4))]
         parts = [
-            b"\0grn\1\0", number(self.small()), number(self.small(1 << 64)), number(self.small(1 << 64)),
+            b"\0grn\2\0", number(self.small()), number(self.small(1 << 64)), number(self.small(1 << 64)),
             number(len(code)), code, self.chunk(len(code)), self.many(function),
             self.many(lambda: text(self.word())), listed(constants + others), self.many(self.token),
             self.many(lambda: self.token() + self.index() + self.token() + self.index()),

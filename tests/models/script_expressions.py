@@ -1,8 +1,9 @@
 """Makes random expressions of scripts, of the parts in script_model.py."""
 import dataclasses
 
+from models.script_floats import FUNCTIONS, TESTS
 from models.script_model import GREATEST, OPEN, POSTFIX, PREFIX, Env, Leave, Node, at, checked, copied, early, literal, new_mark
-from models.script_model import operation, place_of, short, shown, unmarked, valued, variable
+from models.script_model import operation, place_of, short, shown, truncated, unmarked, valued, variable
 
 LETTERS = "abé "
 NAMES = ["a", "b", "c"]
@@ -73,7 +74,7 @@ class Expressions:
     # Expressions.
 
     def expr(self, kind, depth):
-        makers = {"int": self.integer, "bool": self.truth, "text": self.text, "list": self.items, "map": self.map}
+        makers = {"int": self.integer, "float": self.float, "bool": self.truth, "text": self.text, "list": self.items, "map": self.map}
         known = self.pick(kind)
         if known and self.chance.random() < (0.35 if depth else 0.7):
             return variable(known.name)
@@ -86,7 +87,7 @@ class Expressions:
             large = self.chance.choice([GREATEST, -GREATEST, 1 << 40, 5])
             return literal(self.chance.choice([0, 1, 2, 3, 7, 10, -1, -5, self.chance.randrange(1000), large]))
         ways = [self.arithmetic] * 5 + [self.negated, self.length, self.item, self.property, self.called, self.applied]
-        ways += [self.named_number, self.extreme]
+        ways += [self.named_number, self.extreme, self.truncated]
         return self.chance.choice(ways)(depth - 1)
 
     def arithmetic(self, depth):
@@ -97,6 +98,52 @@ class Expressions:
         elif operator in ("/", "%") and self.chance.random() < 0.9:
             right = literal(self.chance.choice([1, 2, 3, 7, -2, -5]))
         return operation(operator, left, right)
+
+    def float(self, depth):
+        if depth <= 0:
+            return literal(self.chance.choice([0.0, 0.5, 1.0, 1.5, 2.25, 3.0, 0.1, -0.75, -2.0, 1e-5, 123.456, 1e10, 1.5e300]))
+        ways = [self.float_arithmetic] * 4 + [self.float_negated, self.float_function, self.converted, self.summed]
+        return self.chance.choice(ways)(depth - 1)
+
+    def float_arithmetic(self, depth):
+        """An operation of two floats, or of a float and an integer."""
+        left, right = self.expr("float", depth), self.expr(self.chance.choice(["float", "float", "int"]), depth)
+        if self.chance.random() < 0.3:
+            left, right = right, left
+        return operation(self.chance.choice("+-*/%"), left, right)
+
+    def float_negated(self, depth):
+        x = self.expr("float", depth)
+        text = x.inside(PREFIX - 1)
+        return Node(f"-({x.text})" if text.startswith("-") else f"-{text}", lambda env: -x.run(env), PREFIX)
+
+    def float_function(self, depth):
+        x, name = self.expr("float", depth), self.chance.choice(list(FUNCTIONS))
+        return Node(f"{x.inside(POSTFIX - 1)}.{name}()", lambda env: FUNCTIONS[name](x.run(env)), POSTFIX)
+
+    def converted(self, depth):
+        x = self.expr("int", depth)
+        return Node(f"{x.inside(POSTFIX - 1)}.to_float()", lambda env: float(x.run(env)), POSTFIX)
+
+    def truncated(self, depth):
+        """The integer that is left of a float, if it has one."""
+        x, (mark, sign) = self.expr("float", depth), new_mark()
+        return Node(f"{x.inside(POSTFIX - 1)}.{sign}to_int()", lambda env: at(mark, truncated, x.run(env)), POSTFIX)
+
+    def summed(self, depth):
+        """What a closure of two parameters makes of the items of an array, one after the other."""
+        items, start, sum_, item = self.made_items(depth), self.expr("float", 0), self.new_name("s"), self.new_name("x")
+        captured = [known for known in self.variables if known.is_captured]
+        added = [Variable(sum_, "float", is_fixed=True), Variable(item, "int", is_fixed=True)]
+        body = self.apart(captured + added, lambda: self.expr("float", depth))
+
+        def run(env):
+            found, value = items.run(env), start.run(env)
+            for each in found:
+                value = body.run(env.bind(sum_, value).bind(item, each))
+            return value
+
+        return Node(f"{items.inside(POSTFIX - 1)}.reduce(|{sum_}, {item}| {body.inside(1)}, {start.text})", run, POSTFIX)
 
     def negated(self, depth):
         x = self.expr("int", depth)
@@ -187,12 +234,18 @@ class Expressions:
     def truth(self, depth):
         if depth <= 0:
             return literal(self.chance.random() < 0.5)
-        return self.chance.choice([self.comparison] * 3 + [self.logical] * 2 + [self.denied, self.containing])(depth - 1)
+        ways = [self.comparison] * 3 + [self.logical] * 2 + [self.denied, self.containing, self.float_test]
+        return self.chance.choice(ways)(depth - 1)
+
+    def float_test(self, depth):
+        x, name = self.expr("float", depth), self.chance.choice(list(TESTS))
+        return Node(f"{x.inside(POSTFIX - 1)}.{name}()", lambda env: TESTS[name](x.run(env)), POSTFIX)
 
     def comparison(self, depth):
         operator = self.chance.choice(["<", "<=", ">", ">=", "==", "!="])
-        kind = self.chance.choice(["int", "int", "text"] + ["list"] * (operator in ("==", "!=")))
-        return operation(operator, self.expr(kind, depth), self.expr(kind, depth))
+        kind = self.chance.choice(["int", "int", "float", "text"] + ["list"] * (operator in ("==", "!=")))
+        other = self.chance.choice(["int", "float"]) if kind == "float" else kind
+        return operation(operator, self.expr(kind, depth), self.expr(other, depth))
 
     def logical(self, depth):
         operator = self.chance.choice(["&&", "||", "&", "|", "^"])
@@ -215,7 +268,7 @@ class Expressions:
         return self.chance.choice([self.joined, self.joined, self.interpolated, self.raised, self.cut])(depth - 1)
 
     def joined(self, depth):
-        x, y = self.expr("text", depth), self.expr(self.chance.choice(["text", "int", "bool", "list"]), depth)
+        x, y = self.expr("text", depth), self.expr(self.chance.choice(["text", "int", "float", "bool", "list"]), depth)
         character = self.pick("char")
         if character and self.chance.random() < 0.4:
             y = variable(character.name)
@@ -229,7 +282,7 @@ class Expressions:
         return Node(f"{x.inside(149)} + {y.inside(150)}", run, 150)
 
     def interpolated(self, depth):
-        kinds = [self.chance.choice(["text", "int", "bool", "list", "map"]) for _ in range(self.chance.randrange(1, 3))]
+        kinds = [self.chance.choice(["text", "int", "float", "bool", "list", "map"]) for _ in range(self.chance.randrange(1, 3))]
         parts = [self.expr(kind, depth) for kind in kinds]
 
         def run(env):

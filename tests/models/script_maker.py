@@ -29,22 +29,22 @@ class Maker(Expressions):
         return self.inner(lambda: block(self.statements(depth)), added)
 
     def declaration(self, depth):
-        kind = self.chance.choice(["int", "int", "int", "bool", "text", "list", "map"])
+        kind = self.chance.choice(["int", "int", "int", "float", "bool", "text", "list", "map"])
         value, name = self.expr(kind, 2), self.declared_name(kind)
         is_fixed = self.chance.random() < 0.1 and not name.startswith("K")
         self.variables.append(Variable(name, kind, is_fixed))
         return Node(f"{'const' if is_fixed else 'let'} {name} = {value.text};", lambda env: env.bind(name, value.run(env)))
 
     def assignment(self, depth):
-        known = self.pick("int", "bool", "text", "list", assigned=True)
+        known = self.pick("int", "float", "bool", "text", "list", assigned=True)
         if not known:
             return self.declaration(depth)
         value, name, (mark, sign) = self.expr(known.kind, 3), known.name, new_mark()
-        operators = {"int": "+-*/%&|^", "text": "+", "list": "+", "bool": "&|^"}[known.kind]
+        operators = {"int": "+-*/%&|^", "float": "+-*/%", "text": "+", "list": "+", "bool": "&|^"}[known.kind]
         if self.chance.random() < 0.5:
             return Node(f"{name} = {value.text};", self.assigning(name, lambda old, new: new, value, mark))
         operator = self.chance.choice(operators)
-        does = CALCULATED[operator] if known.kind in ("int", "bool") else (lambda old, new: short(old + new))
+        does = CALCULATED[operator] if known.kind in ("int", "float", "bool") else (lambda old, new: short(old + new))
         return Node(f"{name} {sign}{operator}= {value.text};", self.assigning(name, does, value, mark))
 
     @staticmethod
@@ -58,7 +58,7 @@ class Maker(Expressions):
         return run
 
     def printed(self, depth):
-        value = self.expr(self.chance.choice(["int", "bool", "text", "list", "map"]), 3)
+        value = self.expr(self.chance.choice(["int", "float", "bool", "text", "list", "map"]), 3)
 
         def run(env):
             env.run.lines += short(shown(value.run(env))).split("\n")
@@ -342,8 +342,8 @@ class Maker(Expressions):
 
     def function(self):
         """A function that sees its parameters alone. One whose name begins with `r` calls itself with a smaller first argument."""
-        is_recursive, kind = self.chance.random() < 0.4, self.chance.choice(["int", "int", "text", "bool"])
-        kinds = [self.chance.choice(["int", "text", "list"]) for _ in range(self.chance.randrange(1, 4))]
+        is_recursive, kind = self.chance.random() < 0.4, self.chance.choice(["int", "int", "float", "text", "bool"])
+        kinds = [self.chance.choice(["int", "float", "text", "list"]) for _ in range(self.chance.randrange(1, 4))]
         if is_recursive:
             kinds[0], kind = "int", "int"
         names = [self.new_name("p") for _ in kinds]

@@ -10,6 +10,9 @@ import itertools
 import re
 import typing
 
+from models import script_floats
+from models.script_floats import float_text, mixed
+
 LEAST, GREATEST = -(1 << 63), (1 << 63) - 1
 STEPS, TEXT = 20_000, 2_000
 
@@ -129,6 +132,8 @@ def shown(value, is_inside=False):
     """A value as `print` shows it."""
     if value is True or value is False:
         return "true" if value else "false"
+    if isinstance(value, float):
+        return float_text(value)
     if isinstance(value, str):
         return '"' + value.replace("\\", "\\\\").replace('"', '\\"') + '"' if is_inside else value
     if isinstance(value, list):
@@ -148,6 +153,13 @@ def checked(number):
     if not LEAST <= number <= GREATEST:
         raise Fault("overflow")
     return number
+
+
+def truncated(number):
+    """The integer that is left of a float without its fraction."""
+    if not -(2.0**63) <= number < 2.0**63:
+        raise Fault("overflow")
+    return int(number)
 
 
 def wrapped(number):
@@ -194,6 +206,9 @@ CALCULATED = {
 }
 
 
+CALCULATED |= {operator: mixed(operator, CALCULATED[operator]) for operator in script_floats.CALCULATED}
+
+
 def place_of(items, index):
     """The place of an index, which counts from the end below 0."""
     if not -len(items) <= index < len(items):
@@ -231,8 +246,8 @@ def early(operator, left, right):
 
 
 def literal(value):
-    if isinstance(value, int) and value is not True and value is not False and value < 0:
-        return Node(str(value), lambda env: value, PREFIX)
+    if isinstance(value, (int, float)) and value is not True and value is not False and value < 0:
+        return Node(shown(value), lambda env: value, PREFIX)
     return Node(shown(value, True), lambda env: copied(value))
 
 

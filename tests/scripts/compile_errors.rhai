@@ -1,20 +1,63 @@
-//--- a floating point number
+//--- a number with an exponent that has no digits
 print("never");
-let x = 1.5;
-//! float
+let x = 1.5e+;
+//! no number
 //@ 2:9
-//--- an exponent
-let x = 2e3;
-//@ 1
-//--- import
-import "other" as o;
-//! import
-//@ 1:1
-//--- export
+//--- a number with a large exponent sign
+let x = 2E3;
+//@ 1:9
+//--- an integer that is too large
+let x = 9223372036854775808;
+//! 64 bits
+//@ 1:9
+//--- two points in a number
+let x = 1.2.3;
+//@ 1:13
+//--- a range of floating point numbers as a case
+switch 1.5 { 1.0..2.0 => 1, _ => 2 }
+//! range of integers
+//--- import of what there isn't
+import "no such module" as o;
+//! no module
+//@ 1:8
+//--- import in a block
+if true { import "other" as o; }
+//! outside of blocks
+//@ 1:11
+//--- import of a name that is computed
+import "oth" + "er" as o;
+//@ 1:14
+//--- a module that is imported nowhere
 let x = 1;
-export x;
-//! export
-//@ 2:1
+x + o::Y
+//! `import`
+//@ 2:5
+//--- a function of such a module
+print(o::f(1));
+//@ 1:7
+//--- export of what there isn't
+let x = 1;
+export y;
+//! variable
+//@ 2:8
+//--- export in a function
+fn f() { export const X = 1; }
+//! outside of blocks
+//@ 1:10
+//--- a computed constant that functions can't see
+const X = print("x");
+fn f() { global::X }
+f()
+//! global::
+//@ 2:10
+//--- a string in single quotes
+let x = 'hello';
+//! double quotes
+//@ 1:9
+//--- null
+let x = null;
+//! `null` is reserved and has no meaning: write `()`
+//@ 1:9
 //--- eval
 let x = 1;
 eval("x + 1");
@@ -94,6 +137,7 @@ continue;
 //@ 1:1
 //--- a reserved word
 let match = 1;
+//! `match`
 //@ 1:5
 //--- a keyword as a name
 let if = 1;
@@ -101,6 +145,7 @@ let if = 1;
 //--- a reserved sign
 let x = 1;
 if x === 1 { }
+//! write `==`
 //@ 2:6
 //--- an unknown escape
 let s = "a\q";
@@ -186,7 +231,7 @@ const X = 1;
 const X = 2;
 fn f() { global::X }
 f()
-//! ::
+//! global::
 //@ 3:10
 //--- a name repeated in an object map
 let m = #{ a: 1, b: 2, a: 3 };

@@ -81,3 +81,21 @@ x.push(4);
 print(x);
 //= [1, 2]
 //= [1, 2, 4]
+//--- a function sees a constant of operators on literals
+const LIMIT = 6 * 7;
+fn f() { global::LIMIT }
+print(f() + LIMIT);
+//= 84
+//--- a function gets a constant array anew
+const LIST = [1, [2, 3], #{ a: 4 }];
+fn f() { let x = global::LIST; x.push(5); x.len() + global::LIST.len() }
+print(f());
+//= 7
+//--- an exported constant
+export const X = 1;
+export let y = 2;
+let z = 3;
+export z;
+export z as other;
+print(X + y + z);
+//= 6

@@ -75,9 +75,9 @@ print(parse_json("[1, 2]"));
 //--- no JSON
 parse_json("{a: 1}")
 //! Data type incorrect: expecting JSON
-//--- JSON has integers alone
-parse_json("[1.5]")
-//! Data type incorrect: expecting integers
+//--- JSON has floating point numbers too
+print(parse_json("[1.5]"));
+//= [1.5]
 //--- JSON that is caught
 let s = "";
 try { parse_json("[1"); } catch (e) { s = e.message; }

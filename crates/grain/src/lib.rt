@@ -34,6 +34,7 @@ pub use explanation::explain;
 pub use grain_base::Caps;
 pub use grain_base::Dynamic;
 pub use grain_base::Flags;
+pub use grain_base::Float;
 pub use grain_base::FnAccess;
 pub use grain_base::FnPtr;
 pub use grain_base::HostValue;

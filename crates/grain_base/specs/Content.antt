@@ -20,6 +20,8 @@ mutual
     object_map : Entries → Content
     fn_ptr : List ℕ → Items → Content
     host : List ℕ → ℕ → Content
+    -- the bits of a float
+    float : ℕ → Content
 
   pub data Items : Type 0 where
     no_items : Items
@@ -45,6 +47,7 @@ abbrev mutual
   same (object_map es) (object_map fs) = same_entries es fs
   same (fn_ptr n xs) (fn_ptr m ys) = bytes_eq n m && same_items xs ys
   same (host t i) (host u j) = bytes_eq t u && i == j
+  same (float n) (float m) = n == m
   same _ _ = false
 
   pub same_items : Items → Items → Bool
@@ -72,6 +75,7 @@ abbrev mutual
   hashable (object_map es) = hashable_entries es
   hashable (fn_ptr n xs) = hashable_items xs
   hashable (host t i) = false
+  hashable (float n) = true
 
   pub hashable_items : Items → Bool
   hashable_items no_items = true
@@ -104,6 +108,7 @@ abbrev mutual
   hash_writes (object_map es) = fed.u8 9 ++ (fed.usize (entry_count es) ++ entries_writes es)
   hash_writes (fn_ptr n xs) = fed.u8 10 ++ fed.str n ++ (fed.usize (item_count xs) ++ items_writes xs)
   hash_writes (host t i) = fed.u8 11 ++ fed.str t ++ fed.u64 i
+  hash_writes (float n) = fed.u8 12 ++ fed.u64 n
 
   pub items_writes : Items → HashWrites
   items_writes no_items = []

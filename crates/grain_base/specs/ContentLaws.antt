@@ -8,7 +8,7 @@ use Rattle.std.specs.Hash.{Alike, same_Alike}
 use Rattle.std.specs.Ordering.{int_eq}
 use Rattle.std.specs.Str.{bytes_eq}
 use Rattle.grain_base.specs.Content.{Content, unit, boolean, integer, character, text, range, range_inclusive, array, blob, object_map}
-use Rattle.grain_base.specs.Content.{fn_ptr, host, Items, no_items, item, Entries, no_entries, entry, same, same_items, same_entries, hash_writes}
+use Rattle.grain_base.specs.Content.{fn_ptr, host, float, Items, no_items, item, Entries, no_entries, entry, same, same_items, same_entries, hash_writes}
 
 -- what is decided in other words
 reworded : {P Q : Type 0} (r : Bool) → Decides r P → (P → Q) → (Q → P) → Decides r Q
@@ -32,6 +32,7 @@ mutual
       reworded _ (Decides-and (bytes_eq n m) (same_items xs ys) (bytes_eq-Decides n m) (same_items_Decides xs ys)) (λ e. cc) (λ e. (cc, cc))
   same_Decides (host t i) (host u j) =
       reworded _ (Decides-and (bytes_eq t u) (i == j) (bytes_eq-Decides t u) (unsigned_Decides i j)) (λ e. cc) (λ e. (cc, cc))
+  same_Decides (float n) (float m) = reworded _ (unsigned_Decides n m) (λ e. ap float e) (λ e. cc)
   same_Decides _ _ = (λ h. absurd (cc), λ e. cc)
 
   pub same_items_Decides : (xs ys : Items) → Decides (same_items xs ys) (xs ≡ ys)

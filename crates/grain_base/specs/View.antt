@@ -1,7 +1,7 @@
 -- The content of a `Dynamic`: a shared value stands for its content at every depth.
 use Rattle.std.specs.Prelude.{Bool, true, false, List, [], ◌∷◌, map, String, string_bytes}
 use Rattle.std.specs.declared.alloc.Global.{Global}
-use Rattle.grain_base.specs.Content.{Content, unit, boolean, integer, character, text, range, range_inclusive, array, blob, object_map, fn_ptr, host, Items, no_items, item, Entries, no_entries, entry}
+use Rattle.grain_base.specs.Content.{Content, unit, boolean, integer, character, text, range, range_inclusive, array, blob, object_map, fn_ptr, host, float, Items, no_items, item, Entries, no_entries, entry}
 use Rattle.grain_base.specs.declared.value.Dynamic.{Dynamic, fold-Dynamic, Shared'}
 use Rattle.grain_base.specs.declared.value.Dynamic.TheOpen.{Dynamic-F, FnPtr-F}
 use Rattle.grain_base.specs.declared.value.FnPtr.{FnPtr, fold-FnPtr}
@@ -28,6 +28,7 @@ content_step (Dynamic-F.Map m) = object_map (entries_of m.entries)
 content_step (Dynamic-F.FnPtr f) = f
 content_step (Dynamic-F.Shared x) = x.value
 content_step (Dynamic-F.Host h) = host (string_bytes h.type_name) h.id
+content_step (Dynamic-F.Float x) = float x.bits
 
 abbrev pub pointer_step : FnPtr-F Content Content → Content
 pointer_step f = fn_ptr (string_bytes f.name) (items_of f.curry.items)

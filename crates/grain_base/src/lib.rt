@@ -4,6 +4,7 @@
 
 mod access;
 mod caps;
+mod float;
 pub mod laws;
 mod operators;
 pub mod pos;
@@ -15,6 +16,7 @@ pub mod varint;
 pub use access::FnAccess;
 pub use bitflags::Flags;
 pub use caps::Caps;
+pub use float::{Float, write_number};
 pub use position::Position;
 pub use token::Token;
 pub use value::{Dynamic, FnPtr, HostValue};

@@ -8,6 +8,7 @@ ghost use Rattle.grain_base.specs.View.{is_shared, content, pointer_content, ite
 
 mod text;
 
+use crate::float::Float;
 use std::collections::BTreeMap;
 use std::hash::{Hash, Hasher};
 
@@ -67,6 +68,8 @@ pub enum Dynamic {
     Shared(Box<Dynamic>),
     /// A value that only the host can look into.
     Host(HostValue),
+    /// A floating-point number.
+    Float(Float),
 }
 
 impl Dynamic {
@@ -91,7 +94,8 @@ impl Dynamic {
             | Dynamic::Str(_)
             | Dynamic::Range(_, _)
             | Dynamic::RangeInclusive(_, _)
-            | Dynamic::Blob(_) => true,
+            | Dynamic::Blob(_)
+            | Dynamic::Float(_) => true,
         }
     }
 
@@ -212,6 +216,7 @@ fn are_bare_equal(left: &Dynamic, right: &Dynamic) -> bool
         (Dynamic::Map(xs), Dynamic::Map(ys)) => are_entries_equal(xs, ys),
         (Dynamic::FnPtr(x), Dynamic::FnPtr(y)) => are_pointers_equal(x, y),
         (Dynamic::Host(x), Dynamic::Host(y)) => x == y,
+        (Dynamic::Float(x), Dynamic::Float(y)) => x == y,
         _ => false,
     }
 }
@@ -334,6 +339,10 @@ fn feed<H: Hasher>(value: &Dynamic, state: &mut H)
         Dynamic::Host(value) => {
             state.write_u8(11);
             value.hash(state);
+        }
+        Dynamic::Float(x) => {
+            state.write_u8(12);
+            x.hash(state);
         }
     }
 }

@@ -65,9 +65,9 @@ module _ (contents : CContents) (host limit : ℕ) (depths written : List ℕ) (
       (subst (λ (caps : ℕ). Allows host caps) a.caps_are judged.lacks_none, is_accepted p contents.program a.program found.0 accepts)
 
   pub loadable : IsFileAnswer contents host limit depths written old new status → status ≡ REFUSED → (p : Program) → AreContents p contents → IsLoadable host p → ⊥
-  loadable (inl lacks) is p a l = lacks.lacks (subst (λ (caps : ℕ). Allows host caps) (sym a.caps_are) (l.allowed p refl))
+  loadable (inl lacks) is p a l = lacks.lacks (subst (λ (caps : ℕ). Allows host caps) (sym a.caps_are) l.allowed)
   loadable (inr judged) is p a l =
       let named = judged.answer.refused is in
       let refuses : Refuses p.caps.0 contents.program.code.now contents.program.chunks.now contents.program.pools named.0 named.1 =
       subst (λ (caps : ℕ). Refuses caps contents.program.code.now contents.program.chunks.now contents.program.pools named.0 named.1) a.caps_are named.3 in
-      (is_refused p contents.program a.program named.0 named.1 refuses).0 (l.accepted p refl)
+      (is_refused p contents.program a.program named.0 named.1 refuses).0 l.accepted

@@ -9,10 +9,11 @@ use Rattle.grain_file.specs.declared.file.ReadError.{ReadError}
 use Rattle.grain_file.specs.declared.file.TheConstants.{MAX_DEPTH}
 use Rattle.grain_flat.specs.Answers.{refusal_record}
 use Rattle.grain_flat.specs.declared.records.CReport.{CReport}
-use Rattle.grain_flat_file.specs.Changed.{AddressesFit, AreStrippedFiles, IsAcceptedAsKept, IsRestorable, IsTightFile, program_work}
+use Rattle.grain_flat_file.specs.Changed.{AddressesFit, AreStrippedFiles, IsRestorable, IsTightFile, program_work}
 use Rattle.grain_flat_file.specs.Errors.{read_error_record}
 use Rattle.grain_flat_file.specs.declared.changed.Stripped.{Stripped}
 use Rattle.grain_flat_file.specs.declared.records.CReadError.{CReadError}
+use Rattle.grain_rules.specs.Accepted.{IsAccepted}
 use Rattle.grain_rules.specs.Flaw.{FlawAt}
 use Rattle.grain_rules.specs.declared.error.VerifyError.{VerifyError}
 
@@ -50,7 +51,7 @@ pub record IsTightenAnswer (limits : Limits) (bytes : List ℕ) (limit : ℕ) (o
   pub bad_limit : status ≡ BAD_LIMIT → MAX_DEPTH < limits.depth
   pub malformed : status ≡ MALFORMED → IsMalformed limits bytes new.error
   -- of whatever accepted program the bytes are a file, that is written, memory and room apart
-  pub only : (p : Program) → IsFileOf limits bytes p → IsAcceptedAsKept p → program_work p ≤ limit → (status ≡ ACCEPTED) ⊎ (status ≡ SHORT) ⊎ (status ≡ OUT_OF_MEMORY)
+  pub only : (p : Program) → IsFileOf limits bytes p → IsAccepted (input_of p) → program_work p ≤ limit → (status ≡ ACCEPTED) ⊎ (status ≡ SHORT) ⊎ (status ≡ OUT_OF_MEMORY)
   pub answers : (status ≡ ACCEPTED) ⊎ (status ≡ SHORT) ⊎ (status ≡ REFUSED) ⊎ (status ≡ TOO_MUCH_WORK) ⊎ (status ≡ MALFORMED) ⊎ (status ≡ OUT_OF_MEMORY) ⊎ (status ≡ BAD_LIMIT)
   pub bounded : (status ≡ ACCEPTED) ⊎ (status ≡ REFUSED) → new.report.visited ≤ limit
   -- room for as many bytes as were read is enough

@@ -1,5 +1,6 @@
 //! Lines of a text that is refused, as messages show them.
 
+use grain::Position;
 use grain::pos::Site;
 use grain_listing::push_shown;
 use rhai_errors::{CompileError, Problem};
@@ -88,6 +89,16 @@ fn push_indent(window: Window<'_>, text: &mut String) -> Result<(), AllocError> 
     Ok(())
 }
 
+/// The line and the column of a position, if it has both.
+pub fn site_of(position: Position) -> Option<Site> {
+    let line = position.line()?;
+    let column = position.position()?;
+    Some(Site {
+        line: line as u32,
+        column: column as u32,
+    })
+}
+
 /// The line of this number, counted from 1.
 fn line_of(source: &str, number: u32) -> Option<&str> {
     let before = number.checked_sub(1)?;
@@ -103,8 +114,11 @@ fn byte_of(line: &str, column: u32) -> usize {
     }
 }
 
-/// Appends a line, and below it a caret at the index.
-fn push_marked(source: &str, place: Site, text: &mut String) -> Result<(), AllocError> {
+/// Appends the line of a script at a position, if it has one, and below it a caret.
+///
+/// # Errors
+/// [`AllocError`] if memory was refused.
+pub fn push_marked(source: &str, place: Site, text: &mut String) -> Result<(), AllocError> {
     let Some(line) = line_of(source, place.line) else {
         return Ok(());
     };
@@ -130,7 +144,10 @@ fn note_of(problem: Problem) -> Option<(Site, &'static str)> {
 }
 
 /// Appends a message about a position of a script, and its line.
-fn push_message(
+///
+/// # Errors
+/// [`AllocError`] if memory was refused.
+pub fn push_message(
     file: &str,
     source: &str,
     place: Site,

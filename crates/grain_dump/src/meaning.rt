@@ -132,7 +132,7 @@ pub fn write_part(
     part: Part,
 ) -> Result<(), AllocError> {
     match part {
-        Part::Header => out.push_str("program, version 1"),
+        Part::Header => out.push_str("program, version 2"),
         Part::Capabilities => write_caps(out, program),
         Part::Id => {
             let id = program.debug_id();
@@ -157,7 +157,7 @@ pub fn write_sidecar_part(
     part: Part,
 ) -> Result<(), AllocError> {
     match part {
-        Part::Header => out.push_str("sidecar, version 1"),
+        Part::Header => out.push_str("sidecar, version 2"),
         Part::Id => {
             let id = sidecar.debug_id;
             write!(out, "{id}")

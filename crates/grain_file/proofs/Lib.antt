@@ -5,3 +5,6 @@ pub mod SidecarFiles
 pub mod Tiles
 pub mod ChangedFiles
 pub mod KnownKinds
+mod FormCaps
+mod KeptAlike
+pub mod KeptAccepted

@@ -12,10 +12,10 @@ magic = 0x00 ∷ 0x67 ∷ 0x72 ∷ 0x6e ∷ []
 
 -- and behind it the version and the kind
 abbrev pub program_head : List ℕ
-program_head = magic ++ 1 ∷ 0 ∷ []
+program_head = magic ++ 2 ∷ 0 ∷ []
 
 abbrev pub sidecar_head : List ℕ
-sidecar_head = magic ++ 1 ∷ 1 ∷ []
+sidecar_head = magic ++ 2 ∷ 1 ∷ []
 
 -- the kind that the first bytes give
 abbrev pub IsOfKind : List ℕ → Option FileKind → Type 0

@@ -17,11 +17,10 @@ use Rattle.grain_file.specs.Causes.{IsReadCause}
 abbrev pub IsFileOf : Limits → List ℕ → Program → Type 0
 IsFileOf limits bytes p = IsFileWithin limits bytes (kept p)
 
--- The host has what the program declares, and it is accepted. That is said of each program of which as much is kept, since
--- programs may lie differently in memory.
+-- The host has what the program declares, and it is accepted.
 pub record IsLoadable (host : ℕ) (p : Program) : Type 0 where
-  pub allowed : (q : Program) → kept q ≡ kept p → Allows host q.caps.0
-  pub accepted : (q : Program) → kept q ≡ kept p → IsAccepted (input_of q)
+  pub allowed : Allows host p.caps.0
+  pub accepted : IsAccepted (input_of p)
 
 -- memory ran out, at one of the steps
 abbrev pub IsMemory : LoadError → Type 0

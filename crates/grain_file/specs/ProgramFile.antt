@@ -93,9 +93,9 @@ kept p = (
 unfoldable pub body_format : Bounds → Format Kept
 body_format bounds = both code_format (both (pools_format bounds) rest_format)
 
--- the version 1, the kind 0, and the program
+-- the version 2, the kind 0, and the program
 unfoldable pub versioned_format : Bounds → Format Kept
-versioned_format bounds = headed 1 Version (headed 0 Kind (body_format bounds))
+versioned_format bounds = headed 2 Version (headed 0 Kind (body_format bounds))
 
 -- 00 67 72 6e, which is "grn" after a byte 0, and that
 unfoldable pub file_format : Bounds → Format Kept

@@ -16,9 +16,9 @@ sidecar_parts s = (halves s.debug_id, (s.positions.items, s.chains.items))
 unfoldable pub tables_format : Format SidecarParts
 tables_format = both (both any_number any_number) (both blob blob)
 
--- the version 1, the kind 1, and the tables
+-- the version 2, the kind 1, and the tables
 unfoldable pub kind_format : Format SidecarParts
-kind_format = headed 1 Version (headed 1 Kind tables_format)
+kind_format = headed 2 Version (headed 1 Kind tables_format)
 
 -- "grn" after a byte 0, and that
 unfoldable pub sidecar_format : Format SidecarParts

@@ -345,7 +345,7 @@ impl<M: Marks> Draft<M> {
             → (file_format bounds).Fits (kept program.now)) }
         ensures decides { Decides result (refusal_of (kept program.now)) }
     {
-        self.header(b"\x00grn\x01\x00")?;
+        self.header(b"\x00grn\x02\x00")?;
         self.code(program)?;
         self.pools(alloc, program)?;
         self.rest(program)?;

@@ -171,7 +171,7 @@ fn read_versioned(cursor: &mut Cursor<'_>, limits: &Limits) -> Result<Program, S
     ensures { Gives kept result cursor.new.left.now
         ((versioned_format (bounds_of limits.now)).reading cursor.old.left.now) }
 {
-    cursor.expect(1, FieldFault::Version)?;
+    cursor.expect(2, FieldFault::Version)?;
     cursor.expect(0, FieldFault::Kind)?;
     let program = read_body(cursor, limits)?;
     Ok(program)

@@ -7,9 +7,9 @@ ghost use Rattle.grain_file.specs.SidecarFile.{IsSidecarFile, SidecarParts};
 /// A kind of file, as its first bytes say.
 #[derive(Clone, Copy, Debug, PartialEq, Eq)]
 pub enum FileKind {
-    /// A program file of version 1.
+    /// A program file of version 2.
     Program,
-    /// A sidecar file of version 1.
+    /// A sidecar file of version 2.
     Sidecar,
     /// The bytes begin as these files do, with another version or kind.
     Unknown,
@@ -32,8 +32,8 @@ fn head_kind(bytes: &[u8]) -> Option<FileKind>
     ensures { IsOfKind bytes.now result }
 {
     match bytes {
-        [0x00, 0x67, 0x72, 0x6e, 1, 0, ..] => Some(FileKind::Program),
-        [0x00, 0x67, 0x72, 0x6e, 1, 1, ..] => Some(FileKind::Sidecar),
+        [0x00, 0x67, 0x72, 0x6e, 2, 0, ..] => Some(FileKind::Program),
+        [0x00, 0x67, 0x72, 0x6e, 2, 1, ..] => Some(FileKind::Sidecar),
         [0x00, 0x67, 0x72, 0x6e, ..] => Some(FileKind::Unknown),
         _ => None,
     }

@@ -2,7 +2,8 @@
 //!
 //! The functions do nothing: each contract is a law.
 ghost use Rattle.std.specs.Prelude.{◌≡◌, ◌≤◌, ◌↔◌, ℕ, List, None};
-ghost use Rattle.grain.specs.Program.{Program};
+ghost use Rattle.grain.specs.Program.{Program, input_of};
+ghost use Rattle.grain_rules.specs.Accepted.{AreDeepest, IsAccepted};
 ghost use Rattle.grain_file.specs.ProgramFile.{Bounds, IsFile, Kept, kept, refusal_of};
 ghost use Rattle.grain_file.specs.SidecarFile.{IsSidecarFile, SidecarParts};
 ghost use Rattle.grain_file.specs.Writable.{IsWritableProgram};
@@ -16,6 +17,15 @@ pub fn files_are_canonical()
         → IsFile bounds a k → IsFile other a l → k ≡ l }
     ensures wider { (bounds more : Bounds) (a : List ℕ) (k : Kept) → bounds.depth ≤ more.depth
         → bounds.cases ≤ more.cases → IsFile bounds a k → IsFile more a k }
+{}
+
+/// Programs of which as much is kept are accepted alike, and have the same depths: they differ in memory alone. So whoever knows
+/// one program of a file knows what [`load`](crate::load) says of it.
+pub fn files_are_accepted_alike()
+    ensures accepted { (p q : Program) → kept p ≡ kept q → IsAccepted (input_of p)
+        → IsAccepted (input_of q) }
+    ensures depths { (p q : Program) → kept p ≡ kept q → (depths : List ℕ)
+        → AreDeepest (input_of p) depths → AreDeepest (input_of q) depths }
 {}
 
 /// No reason stands against a program, so that it is written, exactly where it has nothing that no file keeps.

@@ -33,6 +33,7 @@ pub enum LoadError {
 /// # Errors
 /// Tested in this order: `Read` as [`read`]; `Capabilities` if the host lacks some that the program declares; `Refused` as
 /// [`Program::into_verified`](grain::Program::into_verified).
+#[tactic(auto, using(crate::proofs::KeptAccepted::loadable_alike))]
 pub fn load(alloc: Global, bytes: &[u8], host: Caps, limits: &Limits) -> Result<Verified, LoadError>
     // What is loaded is what the bytes are a file of, its capabilities are the host's, and it is verified.
     ensures file { IfOk result (λ l. IsFileWithin limits.now bytes.now (kept l.program)) }

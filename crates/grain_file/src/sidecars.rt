@@ -89,7 +89,7 @@ fn read_kind(cursor: &mut Cursor<'_>) -> Result<Sidecar, Stop>
     ensures { Gives sidecar_parts result cursor.new.left.now
         (kind_format.reading cursor.old.left.now) }
 {
-    cursor.expect(1, FieldFault::Version)?;
+    cursor.expect(2, FieldFault::Version)?;
     cursor.expect(1, FieldFault::Kind)?;
     let sidecar = read_tables(cursor)?;
     Ok(sidecar)
@@ -151,7 +151,7 @@ fn put_sidecar<M: Marks>(draft: &mut Draft<M>, sidecar: &Sidecar) -> Result<(), 
         ≡ draft.old.bytes.items ++ sidecar_format.spelling (sidecar_parts sidecar.now)) }
     ensures fits { OnOk result (sidecar_format.Fits (sidecar_parts sidecar.now)) }
 {
-    draft.header(b"\x00grn\x01\x01")?;
+    draft.header(b"\x00grn\x02\x01")?;
     draft.id(sidecar.debug_id)?;
     draft.blob(&sidecar.positions, Part::AddressTable)?;
     draft.blob(&sidecar.chains, Part::ChainStream)?;

@@ -9,7 +9,7 @@ use Rattle.grain_code.specs.Span.{Span}
 use Rattle.grain_rules.specs.declared.error.VerifyError.{VerifyError}
 use Rattle.grain_rules.specs.declared.error.VerifyError.TheVariants as errors
 use Rattle.grain_code.specs.declared.op.Op.{Op}
-use Rattle.grain_flat.proofs.Alike.{Alike, allowed, code, deepest, framed, meets, passes, reached, sinks, stands, typed}
+use Rattle.grain_rules.proofs.Alike.{Alike, allowed, code, deepest, framed, meets, passes, reached, sinks, stands, typed}
 
 module _ (bytes : List ℕ) {s t : Setting} {u w : List (List ℕ)} (like : Alike s t u w) (chunk : Span) where
   abbrev one : Bytecode

@@ -15,21 +15,12 @@ use Rattle.grain_pools.specs.declared.chain.Step.{Step}
 use Rattle.grain_pools.specs.declared.chain.Step.TheVariants as steps
 use Rattle.grain_pools.specs.declared.chain.Tail.{Tail}
 use Rattle.grain_pools.specs.declared.chain.Tail.TheVariants as tails
+use Rattle.grain_rules.proofs.Members.{flat_by_rows, map_by_rows}
 use Rattle.grain_flat.specs.declared.records.CChain.{CChain}
 use Rattle.grain_flat.specs.declared.records.CStep.{CStep}
 use Rattle.grain_flat.specs.declared.shapes.TheConstants.{TEMPORARY, READ}
 use Rattle.grain_flat.specs.Flat.{AreChains, chain_row, root_row, step_row, step_rows, tail_row}
 use Rattle.grain_flat.specs.RowFacts.{chain_by_rows, chains_by_rows, root_asked, root_by_row, step_asked, step_by_row, tail_by_row, taken}
-
--- what rows tell tells lists
-pub map_by_rows : {A R X : Type 0} (f : A → X) (row : A → R) (g : R → X) → ((a : A) → f a ≡ g (row a)) → (xs : List A) → map f xs ≡ map g (map row xs)
-map_by_rows f row g by_row [] = refl
-map_by_rows f row g by_row (a ∷ xs) = let here = by_row a in let rest = map_by_rows f row g by_row xs in cc
-
-pub flat_by_rows : {A R X : Type 0} (f : A → List X) (row : A → R) (g : R → List X) → ((a : A) → f a ≡ g (row a)) → (xs : List A) → flat_map f xs ≡ flat_map g (map row xs)
-flat_by_rows f row g by_row [] = refl
-flat_by_rows f row g by_row (a ∷ xs) =
-    flat_map-cons f a xs ∙ ap (λ ys. ys ++ flat_map f xs) (by_row a) ∙ ap (λ ys. g (row a) ++ ys) (flat_by_rows f row g by_row xs) ∙ sym (flat_map-cons g (row a) (map row xs))
 
 -- a row with this root, and one with this tail, whatever else is in it
 abbrev pub with_root : Root → CChain → CChain

@@ -4,10 +4,8 @@ use Rattle.std.specs.List.{AllZip, Contains, flat_map}
 use Rattle.std.proofs.lemmas.List.Concat.{flat_map-cons}
 use Rattle.grain_pools.specs.Dispatch.{Arms, Case, listed, arm_targets}
 use Rattle.grain_rules.specs.Facts.{ChainFacts, chain_facts}
-use Rattle.grain_rules.specs.Flow as flows
-use Rattle.grain_rules.specs.Flow.{Falls, Flow}
+use Rattle.grain_rules.specs.Flow.{Falls}
 use Rattle.grain_rules.specs.Rows.{does, flow_of, row}
-use Rattle.grain_rules.specs.FlowFields.{targets_for}
 use Rattle.grain_rules.specs.Setting.{Setting}
 use Rattle.grain_pools.specs.declared.chain.Chain.{Chain}
 use Rattle.grain_code.specs.declared.op.Op.{Op}
@@ -16,19 +14,10 @@ use Rattle.grain_code.specs.declared.op.Receiver.TheVariants as receiver
 use Rattle.grain_flat.specs.declared.records.CCase.{CCase}
 use Rattle.grain_flat.specs.declared.records.CPools.{CPools}
 use Rattle.grain_flat.specs.Flat.{AreChains, AreSwitches, arm_constants, case_row, case_rows, code_with, arm_range_targets}
-use Rattle.grain_flat.proofs.Alike.{Alike}
-use Rattle.grain_flat.proofs.ChainRows.{map_by_rows, chains_are_by_rows}
-use Rattle.grain_flat.proofs.Members.{appended, at_place, mapped}
+use Rattle.grain_rules.proofs.Alike.{Alike, flow_leads}
+use Rattle.grain_flat.proofs.ChainRows.{chains_are_by_rows}
+use Rattle.grain_rules.proofs.Members.{appended, at_place, map_by_rows, mapped}
 use Rattle.grain_flat.proofs.SwitchRows.{SameArms, same_arms}
-
--- functions that agree give the same lists
-pub map_same : {A X : Type 0} (f g : A → X) → ((a : A) → f a ≡ g a) → (xs : List A) → map f xs ≡ map g xs
-map_same f g same [] = refl
-map_same f g same (x ∷ xs) = let here = same x in let rest = map_same f g same xs in cc
-
-pub flat_same : {A X : Type 0} (f g : A → List X) → ((a : A) → f a ≡ g a) → (xs : List A) → flat_map f xs ≡ flat_map g xs
-flat_same f g same [] = refl
-flat_same f g same (x ∷ xs) = flat_map-cons f x xs ∙ ap (λ ys. ys ++ flat_map f xs) (same x) ∙ ap (λ ys. g x ++ ys) (flat_same f g same xs) ∙ sym (flat_map-cons g x xs)
 
 -- what the rows of cases tell of a case
 case_same : (f : Case → ℕ) (g : CCase → ℕ) → ((c : Case) → f c ≡ g (case_row c)) → (t u : Arms) → SameArms t u → (x : ℕ) → Contains (map f (listed t.cases)) x → Contains (map f (listed u.cases)) x
@@ -48,18 +37,6 @@ target_same t u same x =
 
 pub constant_same : (t u : Arms) → SameArms t u → (x : ℕ) → Contains (arm_constants t) x → Contains (arm_constants u) x
 constant_same t u same = case_same (λ c. c.1.1) (λ row. row.constant) (λ c. refl) t u same
-
-flow_same : (ts us : List Arms) → AllZip SameArms ts us → (f : Flow) (x : ℕ) → Contains (targets_for (map arm_targets ts) f) x → Contains (targets_for (map arm_targets us) f) x
-flow_same ts us same (flows.Switches w) x has = at_place SameArms arm_targets arm_targets target_same ts us same w x has
-flow_same ts us same flows.Falls x has = has
-flow_same ts us same flows.Ends x has = has
-flow_same ts us same (flows.Jumps target) x has = has
-flow_same ts us same (flows.Branches target) x has = has
-flow_same ts us same flows.BeginsIterator x has = has
-flow_same ts us same (flows.AdvancesIterator exit) x has = has
-flow_same ts us same flows.EndsIterator x has = has
-flow_same ts us same (flows.PushesHandler target) x has = has
-flow_same ts us same flows.PopsHandler x has = has
 
 -- pools of the flat form p: these chains and these switches
 pub record AreOf (p : CPools) (chains : List Chain) (switches : List Arms) : Type 0 where
@@ -93,6 +70,6 @@ alike caps p cs ds ts us one other =
     record {
       caps = refl;
       rows = row_same caps p cs ds ts us (facts_same p cs ds ts us one other);
-      leads = λ op. flow_same ts us (arms_same p cs ds ts us one other) (flow_of op);
-      leads_back = λ op. flow_same us ts (arms_same p ds cs us ts other one) (flow_of op);
+      leads = λ op. flow_leads (map arm_targets ts) (map arm_targets us) (at_place SameArms arm_targets arm_targets target_same ts us (arms_same p cs ds ts us one other)) (flow_of op);
+      leads_back = λ op. flow_leads (map arm_targets us) (map arm_targets ts) (at_place SameArms arm_targets arm_targets target_same us ts (arms_same p ds cs us ts other one)) (flow_of op);
     }

@@ -1,4 +1,3 @@
-mod Alike
 mod AlikeFlaws
 mod AsciiNames
 mod ChainRows
@@ -12,7 +11,6 @@ mod Flatness
 mod HexDigits
 mod Listed
 mod ListedEntries
-mod Members
 pub mod Redeclared
 mod PoolsFlaws
 mod RowEntries

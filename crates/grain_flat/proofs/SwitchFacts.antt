@@ -5,7 +5,7 @@ use Rattle.grain_flat.specs.declared.records.CCase.{CCase}
 use Rattle.grain_flat.specs.declared.records.CSwitch.{CSwitch}
 use Rattle.grain_flat.specs.Flat.{arm_constants}
 use Rattle.grain_flat.specs.RowFacts.{cases_by_rows, leads_by_rows, switch_leads}
-use Rattle.grain_flat.proofs.ChainRows.{map_by_rows}
+use Rattle.grain_rules.proofs.Members.{map_by_rows}
 use Rattle.grain_flat.proofs.Flatness.{arms_of, case_of, ranges_kept, switches_by_rows}
 
 pub cases_are_by_rows : (rows : List CSwitch) (cases : List CCase) (ranges : List ℕ) → cases_by_rows rows cases ≡ map arm_constants (switches_by_rows rows cases ranges)

@@ -24,10 +24,11 @@ use Rattle.grain_flat.specs.Asking.{IsFirstRefusedRow, RowPasses}
 use Rattle.grain_flat.specs.Judging.{AreSome, judged}
 use Rattle.grain_flat.specs.declared.records.CConstant.{CConstant}
 use Rattle.grain_flat.specs.declared.records.CPools.{CPools}
-use Rattle.grain_flat.proofs.Alike.{Alike, chunk_passes, deepest, reached_count, safe, typed}
+use Rattle.grain_rules.proofs.Alike.{Alike, chunk_passes, deepest, reached_count, safe, typed}
 use Rattle.grain_flat.proofs.AlikeFlaws.{chunk_flaw}
 use Rattle.grain_flat.proofs.FlatAlike.{AreOf, alike, setting_of}
-use Rattle.grain_flat.proofs.FlatIndices.{TestedAlike, indexed, out, tested_alike}
+use Rattle.grain_flat.proofs.FlatIndices.{flat_tested}
+use Rattle.grain_rules.proofs.TestedAlike.{TestedAlike, indexed, out}
 
 -- lists of pairs
 zip_map : {A B : Type 0} (R S : A → B → Type 0) → ((a : A) (b : B) → R a b → S a b) → (xs : List A) (ys : List B) → AllZip R xs ys → AllZip S xs ys
@@ -51,7 +52,7 @@ module _ (caps : ℕ) (bytes : List ℕ) (p : CPools) (cs ds : List Chain) (ts u
   like = alike caps p cs ds ts us one other
 
   tested : TestedAlike s t
-  tested = tested_alike caps p cs ds ts us one other
+  tested = flat_tested caps p cs ds ts us one other
 
   abbrev mine : List Span → Input
   mine chunks = judged caps bytes chunks p [] cs ts

@@ -7,3 +7,4 @@ pub mod WideAddresses
 pub mod WrittenAgain
 mod RefusedFiles
 pub mod RestorablePrograms
+pub mod FloatNumbers

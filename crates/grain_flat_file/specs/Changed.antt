@@ -19,7 +19,6 @@ use Rattle.grain_flat_file.specs.declared.changed.TightenStop.{TightenStop}
 use Rattle.grain_flat_file.specs.declared.changed.TightenStop.TheVariants as tighten_stops
 use Rattle.grain_flat_file.specs.declared.changed.StripStop.{StripStop}
 use Rattle.grain_flat_file.specs.declared.changed.StripStop.TheVariants as stops
-use Rattle.grain_rules.specs.Accepted.{IsAccepted}
 use Rattle.grain_rules.specs.Flaw.{FlawAt}
 use Rattle.grain_verify.specs.declared.refusal.Refusal.{Refusal}
 use Rattle.grain_verify.specs.Meter.{AreReached, HasCounted, IsWithinAll}
@@ -35,10 +34,6 @@ abbrev pub IsItsFile : Program → List ℕ → Type 0
 IsItsFile p written = (bounds : Bounds) (bytes : List ℕ) → IsFile bounds bytes (kept p) → written ≡ bytes
 
 -- ---- chunks that declare their depths
-
--- accepted, as is each program of which as much is kept
-abbrev pub IsAcceptedAsKept : Program → Type 0
-IsAcceptedAsKept p = (q : Program) → kept q ≡ kept p → IsAccepted (input_of q)
 
 -- how many bytes of its code the chunks of a program span, each counted for itself
 abbrev pub program_work : Program → ℕ

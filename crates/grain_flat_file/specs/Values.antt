@@ -1,10 +1,11 @@
 -- Values as rows, each before what is in it.
-use Rattle.std.specs.Prelude.{◌≡◌, ℕ, ◌+◌, ◌==◌, ◌||◌, ℤ, pos, Bool, true, false, cond, List, [], ◌∷◌, ◌++◌, length}
+use Rattle.std.specs.Prelude.{◌≡◌, ℕ, ◌+◌, ◌^◌, ◌==◌, nat_lt, if◌then◌else◌, ◌||◌, ℤ, pos, Bool, true, false, cond, List, [], ◌∷◌, ◌++◌, length}
 use Rattle.std.specs.List.{flat_map}
+use Rattle.std.specs.Int.{w64, cast_signed}
 use Rattle.std.proofs.Common.{inl, inr}
 use Rattle.grain_base.specs.Tokens.{TokenParts, token_parts}
 use Rattle.grain_base.specs.declared.token.Token.{Token}
-use Rattle.grain_format.specs.Form.{Form, Forms, Entries, unit, boolean, integer, character, text, range, range_inclusive, array, blob, object_map, fn_ptr, shared, host, no_forms, form_then, no_entries, entry_then, listed_forms, listed_entries}
+use Rattle.grain_format.specs.Form.{Form, Forms, Entries, unit, boolean, integer, character, text, range, range_inclusive, array, blob, object_map, fn_ptr, shared, host, float, no_forms, form_then, no_entries, entry_then, listed_forms, listed_entries}
 use Rattle.grain_pools.specs.declared.assign_op.AssignOp.{AssignOp}
 use Rattle.grain_flat_file.specs.declared.records.CValue.{CValue}
 use Rattle.grain_flat_file.specs.declared.records.COpAssignment.{COpAssignment}
@@ -18,6 +19,11 @@ value_row tag count number = record { tag = tag; count = count; number = number 
 -- a row of this many bytes, or of this many values
 abbrev pub counted_row : ℕ → ℕ → CValue
 counted_row tag count = value_row tag count (pos 0)
+
+-- the bits of a floating-point number as the signed number of 64 bits that has them. What has more bits stands for itself, so
+-- that no two are the same.
+unfoldable pub float_number : ℕ → ℤ
+float_number bits = if nat_lt bits (2 ^ 64) then cast_signed w64 bits else pos bits
 
 -- ---- the rows of a value, its own first
 
@@ -37,6 +43,7 @@ abbrev mutual
   value_rows (fn_ptr name xs) = counted_row tags.FN_PTR (length (listed_forms xs)) ∷ counted_row tags.TEXT (length name) ∷ rows_of_forms xs
   value_rows (shared x) = counted_row tags.SHARED 0 ∷ value_rows x
   value_rows (host t i) = counted_row tags.HOST 0 ∷ []
+  value_rows (float n) = value_row tags.FLOAT 0 (float_number n) ∷ []
 
   pub rows_of_forms : Forms → List CValue
   rows_of_forms no_forms = []
@@ -66,6 +73,7 @@ abbrev mutual
   value_texts (fn_ptr name xs) = name ++ texts_of_forms xs
   value_texts (shared x) = value_texts x
   value_texts (host t i) = []
+  value_texts (float n) = []
 
   pub texts_of_forms : Forms → List ℕ
   texts_of_forms no_forms = []

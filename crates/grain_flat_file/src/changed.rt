@@ -1,11 +1,12 @@
 //! Program files that are written again: with chunks that declare their depths, and without positions.
 ghost use Rattle.std.specs.Prelude.{◌≡◌, ◌≢◌, ◌+◌, ◌≤◌, ◌↔◌, IfErr, IfOk, IsOk, IsTrue};
-ghost use Rattle.grain.specs.Program.{Program, places_of};
+ghost use Rattle.grain.specs.Program.{Program, input_of, places_of};
 ghost use Rattle.grain.specs.Sidecars.{IsSidecar, IsStripped};
 ghost use Rattle.grain_bytecode.specs.Positions.{IsRead};
 ghost use Rattle.grain_file.specs.Loading.{IsFileOf};
 ghost use Rattle.grain_file.specs.declared.file.ReadError.{ReadError};
-ghost use Rattle.grain_flat_file.specs.Changed.{AddressesFit, AreStrippedFiles, HasFile, IsAcceptedAsKept, IsItsFile, IsPositionCause, IsRestorable, IsStripCause, IsTightFile, IsTightenCause, program_work};
+ghost use Rattle.grain_rules.specs.Accepted.{IsAccepted};
+ghost use Rattle.grain_flat_file.specs.Changed.{AddressesFit, AreStrippedFiles, HasFile, IsItsFile, IsPositionCause, IsRestorable, IsStripCause, IsTightFile, IsTightenCause, program_work};
 
 use crate::functions::chunk_rows;
 use grain::{Program, Sidecar};
@@ -89,7 +90,7 @@ pub fn tighten(
     ensures file { IfOk result (λ file.
         IsTightFile limits.now bytes.now file.items meter.old meter.new) }
     // Of whatever accepted program within the limits the bytes are a file, that is written, memory apart.
-    ensures only { (p : Program) → IsFileOf limits.now bytes.now p → IsAcceptedAsKept p
+    ensures only { (p : Program) → IsFileOf limits.now bytes.now p → IsAccepted (input_of p)
         → program_work p ≤ limit → IfErr result (λ e. e ≡ TightenStop.Read ReadError.OutOfMemory) }
     // Which test failed, and of what.
     ensures causes { IfErr result

@@ -51,8 +51,8 @@ pub struct CValue {
     /// How many bytes a text or a blob has, how many values an array has, how many entries a map, and how many values are bound
     /// to a function pointer; else 0.
     pub count: u32,
-    /// An integer, the number of a character or an operator, or where the bytes of a text or a blob begin in
-    /// [`CContents::texts`]; else 0.
+    /// An integer, the number of a character or an operator, the 64 bits of a floating-point number, or where the bytes of a text or
+    /// a blob begin in [`CContents::texts`]; else 0.
     pub number: i64,
 }
 

@@ -44,3 +44,6 @@ pub const HOST: u32 = 13;
 
 /// An operator of the language, by its number (docs/FORMAT.md, "Program files").
 pub const OPERATOR: u32 = 14;
+
+/// A floating-point number, by its 64 bits, which the row has as a signed number (two's complement).
+pub const FLOAT: u32 = 15;

@@ -9,11 +9,11 @@ ghost use Rattle.grain_flat_file.specs.Values.{AreConstantLists, AreOperatorList
 use crate::pools::count_of;
 use crate::records::{COpAssignment, CValue};
 use crate::tags::{
-    ARRAY, BLOB, CHARACTER, FALSE, FN_PTR, HOST, INTEGER, MAP, OPERATOR, RANGE, RANGE_INCLUSIVE,
-    SHARED, TEXT, TRUE, UNIT,
+    ARRAY, BLOB, CHARACTER, FALSE, FLOAT, FN_PTR, HOST, INTEGER, MAP, OPERATOR, RANGE,
+    RANGE_INCLUSIVE, SHARED, TEXT, TRUE, UNIT,
 };
 use crate::unflat::Unflat;
-use grain_base::{Dynamic, FnPtr, Token};
+use grain_base::{Dynamic, Float, FnPtr, Token};
 use grain_pools::AssignOp;
 use std::alloc::{AllocError, Global};
 use std::collections::BTreeMap;
@@ -70,6 +70,16 @@ impl ValueLists {
         self.push(INTEGER, 0, to)
     }
 
+    /// Adds a floating-point number.
+    #[tactic(auto, using(crate::proofs::FloatNumbers::number_of_bits))]
+    fn push_float(&mut self, number: Float) -> Result<(), Unflat>
+        ensures rows { OnOk result
+            (self.new.rows.items ≡ self.old.rows.items ++ value_rows (form.float number.bits)) }
+        ensures texts { self.new.texts ≡ self.old.texts }
+    {
+        self.push(FLOAT, 0, number.bits.cast_signed())
+    }
+
     /// Adds a value.
     #[cycle(add_value)]
     pub(crate) fn add(&mut self, value: &Dynamic) -> Result<(), Unflat>
@@ -92,6 +102,7 @@ impl ValueLists {
             Dynamic::FnPtr(pointer) => self.add_pointer(pointer),
             Dynamic::Shared(inner) => self.add_shared(inner),
             Dynamic::Host(_) => self.push(HOST, 0, 0),
+            Dynamic::Float(x) => self.push_float(*x),
         }
     }
 

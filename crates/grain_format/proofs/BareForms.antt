@@ -52,6 +52,7 @@ layer_bare (Dynamic-F.Map m) = ap contents.object_map (bare_entry m.entries)
 layer_bare (Dynamic-F.FnPtr p) = p.1
 layer_bare (Dynamic-F.Shared v) = v.value.1
 layer_bare (Dynamic-F.Host h) = refl
+layer_bare (Dynamic-F.Float x) = refl
 
 pub bare_is : (v : Dynamic) → IsBare v
 bare_is = ind-Dynamic IsBare IsBarePointer

@@ -1,7 +1,7 @@
 -- What a value is once its shared marks are taken off.
 use Rattle.grain_base.specs.Content as content
 use Rattle.grain_base.specs.Content.{Content, Items, Entries as ContentEntries}
-use Rattle.grain_format.specs.Form.{Form, unit, boolean, integer, character, text, range, range_inclusive, array, blob, object_map, fn_ptr, shared, host, Forms, no_forms, form_then, Entries, no_entries, entry_then}
+use Rattle.grain_format.specs.Form.{Form, unit, boolean, integer, character, text, range, range_inclusive, array, blob, object_map, fn_ptr, shared, host, float, Forms, no_forms, form_then, Entries, no_entries, entry_then}
 
 abbrev mutual
   pub bare : Form → Content
@@ -18,6 +18,7 @@ abbrev mutual
   bare (fn_ptr name xs) = content.fn_ptr name (bare_forms xs)
   bare (shared x) = bare x
   bare (host t i) = content.host t i
+  bare (float n) = content.float n
 
   pub bare_forms : Forms → Items
   bare_forms no_forms = content.no_items

@@ -33,6 +33,8 @@ mutual
     shared : Form → Form
     -- no file keeps a value that only the host knows
     host : List ℕ → ℕ → Form
+    -- the bits of a floating-point number
+    float : ℕ → Form
 
   pub data Forms : Type 0 where
     no_forms : Forms
@@ -74,6 +76,7 @@ form_step (Dynamic-F.Map m) = object_map (form_entries_of (map (λ e. (string_by
 form_step (Dynamic-F.FnPtr f) = f
 form_step (Dynamic-F.Shared x) = shared x.value
 form_step (Dynamic-F.Host h) = host (string_bytes h.type_name) h.id
+form_step (Dynamic-F.Float x) = float x.bits
 
 abbrev pub pointer_form_step : FnPtr-F Form Form → Form
 pointer_form_step f = fn_ptr (string_bytes f.name) (forms_of f.curry.items)
@@ -108,6 +111,7 @@ abbrev mutual
   spelled (fn_ptr name xs) = 11 ∷ (counted_bytes name ++ (number (length (listed_forms xs)) ++ spelled_forms xs))
   spelled (shared x) = 12 ∷ spelled x
   spelled (host t i) = []
+  spelled (float n) = 13 ∷ number n
 
   pub spelled_forms : Forms → List ℕ
   spelled_forms no_forms = []
@@ -133,6 +137,7 @@ abbrev mutual
   value_refusal (fn_ptr name xs) = forms_refusal xs
   value_refusal (shared x) = value_refusal x
   value_refusal (host t i) = Some HostValue
+  value_refusal (float n) = None
 
   pub forms_refusal : Forms → Option Unkept
   forms_refusal no_forms = None
@@ -158,6 +163,7 @@ abbrev mutual
   nesting (fn_ptr name xs) = suc (forms_nesting xs)
   nesting (shared x) = suc (nesting x)
   nesting (host t i) = 1
+  nesting (float n) = 1
 
   pub forms_nesting : Forms → ℕ
   forms_nesting no_forms = 0
@@ -191,6 +197,10 @@ EntryFits Inner e = TextFits e.0 × Inner e.1
 abbrev pub IntegerFits : ℤ → Type 0
 IntegerFits z = zigzag z < 2 ^ 64
 
+-- the bits of a floating-point number
+abbrev pub FloatFits : ℕ → Type 0
+FloatFits n = n < 2 ^ 64
+
 -- a Unicode scalar value, which 32 bits hold
 abbrev pub CharacterFits : ℕ → Type 0
 CharacterFits n = IsBelow (2 ^ 32) n × (scalar n ≡ true)
@@ -210,6 +220,7 @@ FitsAround Inner (object_map es) = CountedFit (EntryFits Inner) (listed_entries 
 FitsAround Inner (fn_ptr name xs) = TextFits name × CountedFit Inner (listed_forms xs)
 FitsAround Inner (shared x) = Inner x
 FitsAround Inner (host t i) = ⊥
+FitsAround Inner (float n) = FloatFits n
 
 -- within a depth
 unfoldable pub FitsWithin : ℕ → Form → Type 0
@@ -232,6 +243,7 @@ abbrev mutual
   IsSound (fn_ptr name xs) = TextFits name × ((length (listed_forms xs) < 2 ^ 64) × AreSound xs)
   IsSound (shared x) = IsSound x
   IsSound (host t i) = ⊥
+  IsSound (float n) = FloatFits n
 
   pub AreSound : Forms → Type 0
   AreSound no_forms = Unit {0}

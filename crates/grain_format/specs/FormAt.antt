@@ -6,7 +6,7 @@ use Rattle.grain_format.specs.Reading.{LocatedFault, ◌>>=◌}
 use Rattle.grain_format.specs.Numbers.{number_at, below_at}
 use Rattle.grain_format.specs.Texts.{bytes_at, text_at}
 use Rattle.grain_format.specs.Lists.{checked_at, seen_at, both_at, counted_at}
-use Rattle.grain_format.specs.Form.{Form, unit, boolean, integer, character, text, range, range_inclusive, array, blob, object_map, fn_ptr, shared, forms_of, form_entries_of, comes_after}
+use Rattle.grain_format.specs.Form.{Form, unit, boolean, integer, character, text, range, range_inclusive, array, blob, object_map, fn_ptr, shared, float, forms_of, form_entries_of, comes_after}
 
 -- the signed number that is spelled so
 abbrev pub signed : ℕ → ℤ
@@ -48,7 +48,8 @@ behind_tag value (suc (suc (suc (suc (suc (suc (suc (suc (suc zero))))))))) byte
 behind_tag value (suc (suc (suc (suc (suc (suc (suc (suc (suc (suc zero)))))))))) bytes = seen_at (λ es. object_map (form_entries_of es)) (counted_entries_at value) bytes
 behind_tag value (suc (suc (suc (suc (suc (suc (suc (suc (suc (suc (suc zero))))))))))) bytes = pointer_at value bytes
 behind_tag value (suc (suc (suc (suc (suc (suc (suc (suc (suc (suc (suc (suc zero)))))))))))) bytes = seen_at shared value bytes
-behind_tag value (suc (suc (suc (suc (suc (suc (suc (suc (suc (suc (suc (suc (suc n))))))))))))) bytes = Err (UnknownTag, (suc (suc (suc (suc (suc (suc (suc (suc (suc (suc (suc (suc (suc n))))))))))))) ∷ bytes)
+behind_tag value (suc (suc (suc (suc (suc (suc (suc (suc (suc (suc (suc (suc (suc zero))))))))))))) bytes = seen_at float number_at bytes
+behind_tag value (suc (suc (suc (suc (suc (suc (suc (suc (suc (suc (suc (suc (suc (suc n)))))))))))))) bytes = Err (UnknownTag, (suc (suc (suc (suc (suc (suc (suc (suc (suc (suc (suc (suc (suc (suc n)))))))))))))) ∷ bytes)
 
 -- within a depth
 unfoldable pub value_at : ℕ → List ℕ → Result (Form × List ℕ) LocatedFault

@@ -13,7 +13,7 @@ use Rattle.grain_format.specs.Texts.{counted_bytes, bytes_at, text_at}
 use Rattle.grain_format.specs.TextLaws.{TextFits, text_takes}
 use Rattle.grain_format.specs.Lists.{both_at, counted_at}
 use Rattle.grain_format.specs.ListLaws.{left_are_bytes, regroup}
-use Rattle.grain_format.specs.Form.{Form, integer, character, text, range, range_inclusive, array, blob, object_map, fn_ptr, shared, forms_of, form_entries_of, spelled, comes_after, IntegerFits, FitsWithin}
+use Rattle.grain_format.specs.Form.{Form, integer, character, text, range, range_inclusive, array, blob, object_map, fn_ptr, shared, float, forms_of, form_entries_of, spelled, comes_after, IntegerFits, FitsWithin}
 use Rattle.grain_format.specs.FormLaws.{integer_takes, value_takes}
 use Rattle.grain_format.specs.FormAt.{signed, integer_at, character_at, entries_at, counted_entries_at, behind_tag, value_at}
 
@@ -76,7 +76,8 @@ module _ (value : List ℕ → Result (Form × List ℕ) LocatedFault) (Inner : 
   behind_ends (suc (suc (suc (suc (suc (suc (suc (suc (suc (suc zero)))))))))) bytes fault left are e = after (10 ∷ []) bytes left (seen_ends (λ es. object_map (form_entries_of es)) (counted_entries_at value) map_ends bytes fault left are e)
   behind_ends (suc (suc (suc (suc (suc (suc (suc (suc (suc (suc (suc zero))))))))))) bytes fault left are e = after (11 ∷ []) bytes left (seen_ends (λ r. fn_ptr r.0 (forms_of r.1)) (both_at text_at (counted_at value)) (both_ends counted_bytes TextFits text_at (counted_at value) text_takes text_ends (counted_ends spelled Inner value takes ends)) bytes fault left are e)
   behind_ends (suc (suc (suc (suc (suc (suc (suc (suc (suc (suc (suc (suc zero)))))))))))) bytes fault left are e = after (12 ∷ []) bytes left (seen_ends shared value ends bytes fault left are e)
-  behind_ends (suc (suc (suc (suc (suc (suc (suc (suc (suc (suc (suc (suc (suc n))))))))))))) bytes fault left are e = at_whole ((suc (suc (suc (suc (suc (suc (suc (suc (suc (suc (suc (suc (suc n))))))))))))) ∷ bytes) UnknownTag fault left (err_is {A = Form × List ℕ} {E = LocatedFault} (UnknownTag, (suc (suc (suc (suc (suc (suc (suc (suc (suc (suc (suc (suc (suc n))))))))))))) ∷ bytes) (fault, left) e)
+  behind_ends (suc (suc (suc (suc (suc (suc (suc (suc (suc (suc (suc (suc (suc zero))))))))))))) bytes fault left are e = after (13 ∷ []) bytes left (seen_ends float number_at number_ends bytes fault left are e)
+  behind_ends (suc (suc (suc (suc (suc (suc (suc (suc (suc (suc (suc (suc (suc (suc n)))))))))))))) bytes fault left are e = at_whole ((suc (suc (suc (suc (suc (suc (suc (suc (suc (suc (suc (suc (suc (suc n)))))))))))))) ∷ bytes) UnknownTag fault left (err_is {A = Form × List ℕ} {E = LocatedFault} (UnknownTag, (suc (suc (suc (suc (suc (suc (suc (suc (suc (suc (suc (suc (suc (suc n)))))))))))))) ∷ bytes) (fault, left) e)
 
 pub value_ends : (depth : ℕ) → Ends (value_at depth)
 unfolding value_at

@@ -13,8 +13,8 @@ use Rattle.grain_format.specs.Laws.{bind_ok, chosen, ok_is, tail_are_bytes}
 use Rattle.grain_format.specs.ListLaws.{left_are_bytes, regroup, checked_takes, checked_again, seen_takes, seen_again, both_takes, both_again, counted_takes, counted_again}
 use Rattle.grain_format.specs.NumberLaws.{IsBelow, number_takes, number_again, below_takes, below_again}
 use Rattle.grain_format.specs.TextLaws.{BytesFit, TextFits, bytes_takes, bytes_again, text_takes, text_again}
-use Rattle.grain_format.specs.Form.{Form, unit, boolean, integer, character, text, range, range_inclusive, array, blob, object_map, fn_ptr, shared, host, Forms, no_forms, form_then, Entries, no_entries, entry_then}
-use Rattle.grain_format.specs.Form.{forms_of, listed_forms, form_entries_of, listed_entries, spelled, spelled_forms, spelled_entries, entry_spelled, comes_after, KeysAscend, EntryFits, IntegerFits, CharacterFits, FitsAround, FitsWithin}
+use Rattle.grain_format.specs.Form.{Form, unit, boolean, integer, character, text, range, range_inclusive, array, blob, object_map, fn_ptr, shared, host, float, Forms, no_forms, form_then, Entries, no_entries, entry_then}
+use Rattle.grain_format.specs.Form.{forms_of, listed_forms, form_entries_of, listed_entries, spelled, spelled_forms, spelled_entries, entry_spelled, comes_after, KeysAscend, EntryFits, IntegerFits, CharacterFits, FloatFits, FitsAround, FitsWithin}
 use Rattle.grain_format.specs.FormAt.{signed, integer_at, character_at, entries_at, counted_entries_at, behind_tag, value_at}
 
 -- ---- signed numbers
@@ -170,7 +170,9 @@ module _ (value : List ℕ → Result (Form × List ℕ) LocatedFault) (Inner : 
       tagged (both_spelling counted_bytes (counted_spelling spelled)) (BothFit TextFits (CountedFit Inner)) (both_at text_at (counted_at value)) (λ r. fn_ptr r.0 (forms_of r.1)) 11 (both_takes counted_bytes TextFits text_at (counted_spelling spelled) (CountedFit Inner) (counted_at value) text_takes (counted_takes spelled Inner value takes)) (λ r. ap (λ (b : List ℕ). 11 ∷ (counted_bytes r.0 ++ b)) (sym (array_spelled r.1))) (λ r f. (f.0, rw (listed_forms-forms_of r.1) f.1)) bytes x rest are e
   behind_takes takes (suc (suc (suc (suc (suc (suc (suc (suc (suc (suc (suc (suc zero)))))))))))) bytes x rest are e =
       tagged spelled Inner value shared 12 takes (λ v. refl) (λ v f. f) bytes x rest are e
-  behind_takes takes (suc (suc (suc (suc (suc (suc (suc (suc (suc (suc (suc (suc (suc n))))))))))))) bytes x rest are e = absurd cc
+  behind_takes takes (suc (suc (suc (suc (suc (suc (suc (suc (suc (suc (suc (suc (suc zero))))))))))))) bytes x rest are e =
+      tagged number FloatFits number_at float 13 number_takes (λ n. refl) (λ n f. f) bytes x rest are e
+  behind_takes takes (suc (suc (suc (suc (suc (suc (suc (suc (suc (suc (suc (suc (suc (suc n)))))))))))))) bytes x rest are e = absurd cc
 
 -- ---- within a depth
 
@@ -203,3 +205,4 @@ value_again (suc depth) (fn_ptr name xs) rest fits =
     rw (forms_spelled xs, both_again counted_bytes TextFits text_at (counted_spelling spelled) (CountedFit (FitsWithin depth)) (counted_at (value_at depth)) text_again (counted_again spelled (FitsWithin depth) (value_at depth) (value_again depth)) (name, listed_forms xs) rest fits, forms_of-listed_forms xs) refl
 value_again (suc depth) (shared x) rest fits = rw (value_again depth x rest fits) refl
 value_again (suc depth) (host t i) rest fits = absurd fits
+value_again (suc depth) (float n) rest fits = rw (number_again n rest fits) refl

@@ -6,7 +6,7 @@ use Rattle.grain_format.specs.Reading.{or_refused, KeepsAll}
 use Rattle.grain_format.specs.Lists.{CountedFit}
 use Rattle.grain_format.specs.Refusals.{counted_refusal}
 use Rattle.grain_format.specs.TextLaws.{TextFits}
-use Rattle.grain_format.specs.Form.{Form, unit, boolean, integer, character, text, range, range_inclusive, array, blob, object_map, fn_ptr, shared, host, Forms, no_forms, form_then, Entries, no_entries, entry_then}
+use Rattle.grain_format.specs.Form.{Form, unit, boolean, integer, character, text, range, range_inclusive, array, blob, object_map, fn_ptr, shared, host, float, Forms, no_forms, form_then, Entries, no_entries, entry_then}
 use Rattle.grain_format.specs.Form.{forms_of, listed_forms, form_entries_of, listed_entries, value_refusal, forms_refusal, entries_refusal, nesting, forms_nesting, entries_nesting, KeysAscend, EntryFits, FitsAround, FitsWithin, IsSound, AreSound, AreSoundEntries}
 use Rattle.grain_format.specs.FormLaws.{listed_forms-forms_of, listed_entries-form_entries_of}
 
@@ -26,6 +26,7 @@ some (object_map es) = omega arith
 some (fn_ptr name xs) = omega arith
 some (shared x) = omega arith
 some (host t i) = omega arith
+some (float n) = omega arith
 
 module _ (d : ℕ) (one : (x : Form) → IsSound x → nesting x ≤ d → FitsWithin d x) where
   all_within : (xs : Forms) → AreSound xs → forms_nesting xs ≤ d → AllByRecursion (FitsWithin d) (listed_forms xs)
@@ -52,6 +53,7 @@ sound_fits (suc d) (object_map es) sound small = ((sound.0.0, entries_within d (
 sound_fits (suc d) (fn_ptr name xs) sound small = (sound.0, (sound.1.0, all_within d (sound_fits d) xs sound.1.1 (omega arith)))
 sound_fits (suc d) (shared x) sound small = sound_fits d x sound (omega arith)
 sound_fits (suc d) (host t i) sound small = absurd sound
+sound_fits (suc d) (float n) sound small = sound
 
 -- the deepest of some values
 abbrev pub deepest : List Form → ℕ
@@ -87,6 +89,7 @@ module _ (P Q : Form → Type 0) (more : (x : Form) → P x → Q x) where
   around_more (fn_ptr name xs) fits = (fits.0, (fits.1.0, each_more (listed_forms xs) fits.1.1))
   around_more (shared x) fits = more x fits
   around_more (host t i) fits = absurd fits
+  around_more (float n) fits = fits
 
 pub value_deeper : (d e : ℕ) → d ≤ e → (x : Form) → FitsWithin d x → FitsWithin e x
 unfolding FitsWithin
@@ -152,6 +155,7 @@ module _ (Inner : Form → Type 0) (kept : KeepsAll Inner value_refusal) where
   around_kept (fn_ptr name xs) fits = forms_kept xs fits.1.1
   around_kept (shared x) fits = kept x fits
   around_kept (host t i) fits = absurd fits
+  around_kept (float n) fits = refl
 
 pub value_keeps : (d : ℕ) → KeepsAll (FitsWithin d) value_refusal
 unfolding FitsWithin

@@ -27,6 +27,7 @@ pub(crate) fn copy(alloc: Global, value: &Dynamic) -> Result<Dynamic, AllocError
         Dynamic::FnPtr(pointer) => Dynamic::FnPtr(copy_pointer(alloc, pointer)?),
         Dynamic::Shared(inner) => copy(alloc, inner)?,
         Dynamic::Host(host) => Dynamic::Host(copy_host(alloc, host)?),
+        Dynamic::Float(x) => Dynamic::Float(*x),
     })
 }
 

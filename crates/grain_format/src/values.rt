@@ -13,7 +13,7 @@ use crate::error::{FieldFault, Stop, Unkept, WriteError};
 use crate::integer::{put_integer, read_integer};
 use crate::lists::reserve;
 use crate::number::{put_bytes, put_number, put_string};
-use grain_base::{Dynamic, FnPtr};
+use grain_base::{Dynamic, Float, FnPtr};
 use std::alloc::AllocError;
 use std::collections::BTreeMap;
 
@@ -51,7 +51,7 @@ pub(crate) fn read_value(cursor: &mut Cursor<'_>, depth: u32) -> Result<Dynamic,
     let Some((tag, rest)) = cursor.left.split_first() else {
         return Err(Stop::FieldFault(FieldFault::Truncated));
     };
-    if *tag > 12 {
+    if *tag > 13 {
         return Err(Stop::FieldFault(FieldFault::UnknownTag));
     }
     cursor.left = rest;
@@ -62,7 +62,7 @@ pub(crate) fn read_value(cursor: &mut Cursor<'_>, depth: u32) -> Result<Dynamic,
 #[cycle(value)]
 #[tactic(auto, unfolding(crate::specs::FormAt::behind_tag))]
 fn read_behind(cursor: &mut Cursor<'_>, tag: u8, depth: u32) -> Result<Dynamic, Stop>
-    requires { tag < 13 }
+    requires { tag < 14 }
     ensures { Gives value_form result cursor.new.left.now
         (behind_tag (value_at depth) tag cursor.old.left.now) }
 {
@@ -108,9 +108,13 @@ fn read_behind(cursor: &mut Cursor<'_>, tag: u8, depth: u32) -> Result<Dynamic, 
             let pointer = read_pointer(cursor, depth)?;
             Ok(Dynamic::FnPtr(pointer))
         }
-        _ => {
+        12 => {
             let inner = read_value(cursor, depth)?;
             Ok(Dynamic::Shared(Box::new(cursor.alloc, inner)?))
+        }
+        _ => {
+            let bits = cursor.number()?;
+            Ok(Dynamic::Float(Float { bits }))
         }
     }
 }
@@ -248,6 +252,11 @@ pub fn put_value(out: &mut Vec<u8>, value: &Dynamic) -> Result<(), WriteError>
             Ok(())
         }
         Dynamic::Host(_) => Err(WriteError::Unkept(Unkept::HostValue)),
+        Dynamic::Float(x) => {
+            out.push(13)?;
+            put_number(out, x.bits)?;
+            Ok(())
+        }
     }
 }
 

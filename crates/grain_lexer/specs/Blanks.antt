@@ -14,6 +14,10 @@ unblanked line = drop (position_or_len is_mark line) line
 abbrev pub ReadsText : List ℕ → List ℕ → List ℕ → Type 0
 ReadsText line text left = unblanked line ≡ text ++ left
 
+-- behind the blanks comes a text, whichever it is, and then what is left
+abbrev pub HasRead : List ℕ → List ℕ → Type 0
+HasRead line left = (text : List ℕ) × ReadsText line text left
+
 -- nothing is left, or a comment comes
 abbrev pub is_over : List ℕ → Bool
 is_over [] = true

@@ -2,7 +2,7 @@
 ghost use Rattle.std.specs.Prelude.{◌≡◌, ◌<◌, ◌≤◌, ◌∷◌, ◌++◌, IfOk, IfSome, MatchOption, MatchResult, false, length, position, true};
 ghost use Rattle.std.specs.Bool.{OnFalse, OnTrue};
 ghost use Rattle.std.specs.Str.Parse.{ParsesUnsigned, error_kind};
-ghost use Rattle.grain_lexer.specs.Blanks.{ReadsText, is_mark, is_over, unblanked};
+ghost use Rattle.grain_lexer.specs.Blanks.{HasRead, ReadsText, is_mark, is_over, unblanked};
 ghost use Rattle.grain_lexer.specs.Numbers.{IsOutOfRange, ReadsIndex, ReadsInteger, ReadsNumeral, digits_of, radix_of};
 ghost use Rattle.grain_lexer.specs.Positions.{ReadsPosition, ReadsPositionOrNone};
 ghost use Rattle.grain_lexer.specs.declared.problem.LineProblem.{LineProblem};
@@ -10,7 +10,7 @@ ghost use Rattle.grain_lexer.specs.declared.problem.LineProblem.TheVariants as p
 ghost use Rattle.grain_lexer.specs.declared.problem.LineStop.{LineStop};
 
 use crate::problem::{LineProblem, LineStop};
-use grain_base::Position;
+use grain_base::{Float, Position};
 use std::alloc::Global;
 use std::num::{IntErrorKind, ParseIntError};
 use std::str;
@@ -43,6 +43,22 @@ fn split_number(bytes: &[u8]) -> (&[u8], &[u8])
         .iter()
         .position(|byte| !is_word_byte(*byte) && *byte != b'-');
     split_front(bytes, len)
+}
+
+/// The first bytes up to one that is in no number, float or range, and the others.
+fn split_float(bytes: &[u8]) -> (&[u8], &[u8])
+    ensures { bytes.now ≡ result.0.now ++ result.1.now }
+{
+    let len = bytes.iter().position(|byte| !matches!(
+        *byte,
+        b'0'..=b'9' | b'.' | b'e' | b'-' | b'+'
+    ));
+    split_front(bytes, len)
+}
+
+/// Whether these digits have a fraction or an exponent, and aren't a range of integers.
+fn is_float(digits: &str) -> bool {
+    (digits.contains('.') || digits.contains('e')) && !digits.contains("..")
 }
 
 fn split_spelling(bytes: &[u8]) -> (&[u8], &[u8])
@@ -283,6 +299,27 @@ impl<'a> LineCursor<'a> {
                 Ok(integer)
             }
             Err(error) => Err(LineStop::Fault(no_number(error, LineProblem::NotDecimal))),
+        }
+    }
+
+    /// Reads a float by its decimal digits, if digits with a fraction or an exponent are next.
+    pub fn float(&mut self) -> Result<Option<Float>, LineStop>
+        ensures { IfOk result (λ found. MatchOption found
+            (self.new.left.now ≡ unblanked self.old.left.now)
+            (λ _. HasRead self.old.left.now self.new.left.now)) }
+    {
+        self.blanks();
+        let (digits, rest) = split_float(self.left);
+        let digits = text_of(digits)?;
+        if !is_float(digits) {
+            return Ok(None);
+        }
+        match digits.parse::<f64>() {
+            Ok(number) => {
+                self.left = rest;
+                Ok(Some(Float::of(number)))
+            }
+            Err(_) => Err(LineStop::Fault(LineProblem::NotDecimal)),
         }
     }
 

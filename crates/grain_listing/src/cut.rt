@@ -29,7 +29,8 @@ fn room_after(value: &Dynamic, room: usize) -> usize {
         | Dynamic::Int(_)
         | Dynamic::Char(_)
         | Dynamic::Range(..)
-        | Dynamic::RangeInclusive(..) => room,
+        | Dynamic::RangeInclusive(..)
+        | Dynamic::Float(_) => room,
     }
 }
 

@@ -1,12 +1,28 @@
 //! Values.
 
-use grain_base::{Dynamic, FnPtr, HostValue};
+use grain_base::{Dynamic, Float, FnPtr, HostValue};
 use grain_lexer::{LineCursor, LineProblem, LineStop, read_char, read_text, read_text_or_word};
 use std::alloc::{AllocError, Global};
 use std::collections::BTreeMap;
 
 /// How deep values are nested at most. One that holds no other counts 1.
 pub const MAX_DEPTH: u32 = 64;
+
+/// Reads a float, an integer, or a range of integers.
+fn read_number(cursor: &mut LineCursor<'_>) -> Result<Dynamic, LineStop> {
+    match cursor.float()? {
+        Some(float) => Ok(Dynamic::Float(float)),
+        None => read_integers(cursor),
+    }
+}
+
+/// Reads the bits of a float, after its word.
+fn read_bits(cursor: &mut LineCursor<'_>) -> Result<Dynamic, LineStop> {
+    cursor.expect(b'(')?;
+    let bits = cursor.number()?;
+    cursor.expect(b')')?;
+    Ok(Dynamic::Float(Float { bits }))
+}
 
 /// Reads an integer, or a range of integers.
 fn read_integers(cursor: &mut LineCursor<'_>) -> Result<Dynamic, LineStop> {
@@ -87,7 +103,7 @@ pub(crate) fn read_value(cursor: &mut LineCursor<'_>, depth: u32) -> Result<Dyna
         [b'(', ..] => read_unit(cursor),
         [b'"', ..] => Ok(Dynamic::Str(read_text(cursor)?)),
         [b'\'', ..] => Ok(Dynamic::Char(read_char(cursor)?)),
-        [b'-' | b'0'..=b'9', ..] => read_integers(cursor),
+        [b'-' | b'0'..=b'9', ..] => read_number(cursor),
         [b'[', rest @ ..] => {
             cursor.left = rest;
             Ok(Dynamic::Array(read_items(cursor, b']', depth)?))
@@ -109,6 +125,7 @@ fn read_named(cursor: &mut LineCursor<'_>, depth: u32) -> Result<Dynamic, LineSt
         "false" => Ok(Dynamic::Bool(false)),
         "blob" => read_blob(cursor),
         "host" => read_host(cursor),
+        "float" => read_bits(cursor),
         "Fn" => Ok(Dynamic::FnPtr(read_pointer(cursor, depth)?)),
         "shared" => read_shared(cursor, depth),
         _ => {

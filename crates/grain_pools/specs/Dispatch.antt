@@ -2,7 +2,7 @@
 use Rattle.std.specs.Prelude.{ℕ, ℤ, int_le, int_lt, List, [], ◌∷◌, ◌++◌, map, Bool, false, ◌&&◌, cond, Option, Some, None, option_map, unwrap_or, ◌≤◌, ◌<◌, length, slice_index_or, nat_le}
 use Rattle.std.specs.List.{find, All, Contains, AllWithin, HoldsAt}
 use Rattle.std.specs.Map.{lookup}
-use Rattle.grain_base.specs.Content.{Content, unit, boolean, integer, character, text, range, range_inclusive, array, blob, object_map, fn_ptr, host, same, hashable}
+use Rattle.grain_base.specs.Content.{Content, unit, boolean, integer, character, text, range, range_inclusive, array, blob, object_map, fn_ptr, host, float, same, hashable}
 use Rattle.grain_base.specs.View.{content}
 use Rattle.grain_base.specs.declared.value.Dynamic.{Dynamic}
 use Rattle.grain_pools.specs.declared.switch.SwitchRange.{SwitchRange}
@@ -26,6 +26,7 @@ contains r (blob xs) = false
 contains r (object_map es) = false
 contains r (fn_ptr n xs) = false
 contains r (host t i) = false
+contains r (float n) = false
 
 -- the target of the first range that contains it
 abbrev pub by_ranges : List SwitchRange → Content → Option ℕ

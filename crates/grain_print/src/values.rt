@@ -1,9 +1,12 @@
 //! Values as literals.
 
 use crate::quote::{write_char, write_text};
-use grain_base::{Dynamic, FnPtr};
+use grain_base::{Dynamic, Float, FnPtr};
 use std::alloc::{AllocError, Global};
 use std::collections::BTreeMap;
+
+/// The bits of the zero whose sign is set, which the text of a number doesn't show.
+const NEGATIVE_ZERO: u64 = 0x8000_0000_0000_0000;
 
 /// Appends a value as a literal. It takes the call stack by the depth of the value.
 #[cycle(value)]
@@ -36,6 +39,19 @@ pub fn write_value(alloc: Global, out: &mut String, value: &Dynamic) -> Result<(
             let id = host.id;
             write!(out, ", {id})")
         }
+        Dynamic::Float(x) => write_float(out, *x),
+    }
+}
+
+/// Appends a float: by its decimal digits, or by its bits if it is infinite or one of the many NaN.
+fn write_float(out: &mut String, float: Float) -> Result<(), AllocError> {
+    let Float { bits } = float;
+    if bits == NEGATIVE_ZERO {
+        out.push_str("-0.0")
+    } else if float.number().is_finite() {
+        write!(out, "{float}")
+    } else {
+        write!(out, "float({bits:#x})")
     }
 }
 

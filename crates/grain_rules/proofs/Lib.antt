@@ -21,3 +21,6 @@ pub mod Transport
 pub mod Verdicts
 pub mod Whole
 pub mod WithoutIndex
+pub mod Alike
+pub mod Members
+pub mod TestedAlike

@@ -29,6 +29,7 @@ caps_step (Dynamic-F.Char c) = Some 0
 caps_step (Dynamic-F.Str s) = Some 0
 caps_step (Dynamic-F.Range from to) = Some 0
 caps_step (Dynamic-F.RangeInclusive from to) = Some 0
+caps_step (Dynamic-F.Float x) = Some 0
 
 abbrev pub pointer_caps_step : FnPtr-F (Option ℕ) (Option ℕ) → Option ℕ
 pointer_caps_step f = with_parts FN_PTR f.curry.items

@@ -32,7 +32,8 @@ pub fn constant_caps(value: &Dynamic) -> Option<Caps>
         | Dynamic::Char(_)
         | Dynamic::Str(_)
         | Dynamic::Range(..)
-        | Dynamic::RangeInclusive(..) => Some(Caps::empty()),
+        | Dynamic::RangeInclusive(..)
+        | Dynamic::Float(_) => Some(Caps::empty()),
     }
 }
 

@@ -3,7 +3,7 @@
 //! The seed of a constant decides its value, so that the case of a switch is made as a second one of the same seed.
 
 use crate::chance::Chance;
-use grain::{Dynamic, FnPtr};
+use grain::{Dynamic, Float, FnPtr};
 use std::alloc::{AllocError, Global};
 use std::collections::BTreeMap;
 
@@ -21,9 +21,10 @@ enum Leaf {
     Range,
     RangeInclusive,
     Blob,
+    Float,
 }
 
-static LEAVES: [Leaf; 8] = [
+static LEAVES: [Leaf; 9] = [
     Leaf::Unit,
     Leaf::Bool,
     Leaf::Int,
@@ -32,6 +33,7 @@ static LEAVES: [Leaf; 8] = [
     Leaf::Range,
     Leaf::RangeInclusive,
     Leaf::Blob,
+    Leaf::Float,
 ];
 
 /// A value that holds others.
@@ -50,6 +52,29 @@ static TEXTS: [&str; 6] = ["", "x", "length", "a\nb", "é\u{1f600}", "\""];
 static CHARS: [char; 5] = ['a', '\n', '\'', 'é', '\u{1f600}'];
 
 static INTEGERS: [i64; 7] = [0, 1, -1, 42, 1000, i64::MIN, i64::MAX];
+
+/// Bits of floats: zeros, fractions, numbers with exponents, infinities and two NaN.
+static FLOAT_BITS: [u64; 9] = [
+    0x0000_0000_0000_0000,
+    0x8000_0000_0000_0000,
+    0x3ff8_0000_0000_0000,
+    0xc024_0000_0000_0000,
+    0x7fef_ffff_ffff_ffff,
+    0x0000_0000_0000_0001,
+    0x7ff0_0000_0000_0000,
+    0x7ff8_0000_0000_0000,
+    0xfff8_0000_0000_0001,
+];
+
+/// A float of the table, or one of any bits.
+fn float(chance: &mut Chance) -> Float {
+    match chance.pick(&FLOAT_BITS) {
+        Some(bits) if chance.one_in(2) => Float { bits },
+        _ => Float {
+            bits: chance.word(),
+        },
+    }
+}
 
 fn text(alloc: Global, chance: &mut Chance) -> Result<String, AllocError> {
     String::from_str(alloc, chance.pick(&TEXTS).unwrap_or_default())
@@ -87,6 +112,7 @@ fn simple(alloc: Global, chance: &mut Chance) -> Result<Dynamic, AllocError> {
             Ok(Dynamic::RangeInclusive(from, integer(chance)))
         }
         Leaf::Blob => Ok(Dynamic::Blob(blob(alloc, chance)?)),
+        Leaf::Float => Ok(Dynamic::Float(float(chance))),
     }
 }
 

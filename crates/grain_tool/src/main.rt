@@ -2,8 +2,11 @@
 #![tactic(auto)]
 
 mod command;
+mod memory;
+mod modules;
 mod scripts;
 mod terminal;
+mod unknown;
 
 use crate::command::WRONG_ARGUMENTS;
 use clap::error::ErrorKind;

@@ -1,5 +1,6 @@
 //! Scripts and program files alike.
 
+use crate::modules::FileModules;
 use grain::{Program, Verified};
 use grain_cli::excerpt::push_report;
 use grain_cli::failure::Failure;
@@ -7,7 +8,7 @@ use grain_cli::files::{program_of, read_bytes, shown};
 use grain_cli::loading::{Allowed, admit, verified_of};
 use grain_file::kind_of;
 use md5::{Digest, Md5};
-use rhai_compile::{CompileError, Options, Problem, compile, flaws};
+use rhai_compile::{CompileError, Options, Problem, compile_with, flaws};
 use std::alloc::{AllocError, Global};
 
 /// How long reports of errors get before no other is added.
@@ -22,40 +23,76 @@ pub fn program_in(rt: &HostRuntime, path: &str) -> Result<Program, Failure> {
     if kind_of(&bytes).is_some() {
         program_of(rt.alloc(), path, &bytes)
     } else {
-        Ok(compiled(rt.alloc(), path, bytes)?.into_program())
+        let script = text_of(rt.alloc(), path, bytes)?;
+        Ok(compiled(rt, path, script.as_str())?.into_program())
     }
+}
+
+/// A program that was verified, and the text of the script that it was compiled from, if it wasn't read from a program file.
+#[derive(Drop)]
+pub struct Input {
+    /// The program.
+    pub verified: Verified,
+    /// The script.
+    pub script: Option<String>,
 }
 
 /// The program of a file as [`program_in`], verified once, if a host takes it.
 ///
 /// # Errors
 /// As [`program_in`] and [`verified_of`].
-pub fn verified_in(rt: &HostRuntime, path: &str, allowed: Allowed) -> Result<Verified, Failure> {
+pub fn input_in(rt: &HostRuntime, path: &str, allowed: Allowed) -> Result<Input, Failure> {
     let bytes = read_bytes(rt, path)?;
     if kind_of(&bytes).is_some() {
         let program = program_of(rt.alloc(), path, &bytes)?;
-        return verified_of(rt.alloc(), path, allowed, program);
+        let verified = verified_of(rt.alloc(), path, allowed, program)?;
+        return Ok(Input {
+            verified,
+            script: None,
+        });
     }
-    let verified = compiled(rt.alloc(), path, bytes)?;
+    let script = text_of(rt.alloc(), path, bytes)?;
+    let verified = compiled(rt, path, script.as_str())?;
     admit(rt.alloc(), path, allowed, verified.program())?;
-    Ok(verified)
+    Ok(Input {
+        verified,
+        script: Some(script),
+    })
 }
 
-/// The program of a script.
+/// The text of a script.
 ///
 /// # Errors
-/// The bytes are no text, or it can't be compiled.
-pub fn compiled(alloc: Global, path: &str, bytes: Vec<u8>) -> Result<Verified, Failure> {
-    let Ok(source) = String::from_utf8(bytes) else {
-        return Err(Failure::of(alloc, shown(path), "the text is not UTF-8"));
-    };
+/// The bytes are no text.
+pub fn text_of(alloc: Global, path: &str, bytes: Vec<u8>) -> Result<String, Failure> {
+    match String::from_utf8(bytes) {
+        Ok(script) => Ok(script),
+        Err(_) => Err(Failure::of(alloc, shown(path), "the text is not UTF-8")),
+    }
+}
+
+/// The program of a script, and of the modules that lie beside it.
+///
+/// # Errors
+/// It or a module can't be compiled.
+pub fn compiled(rt: &HostRuntime, path: &str, script: &str) -> Result<Verified, Failure> {
+    let alloc = rt.alloc();
     let options = Options {
         strict_variables: true,
-        debug_id: u128::from_le_bytes(digest_of(source.as_bytes())),
+        debug_id: u128::from_le_bytes(digest_of(script.as_bytes())),
     };
-    match compile(alloc, source.as_str(), &options) {
-        Ok(verified) => Ok(verified),
-        Err(error) => Err(refused(alloc, path, source.as_str(), error)),
+    let mut modules = FileModules::beside(rt, path)?;
+    let stopped = match compile_with(alloc, script, &options, &mut modules) {
+        Ok(verified) => return Ok(verified),
+        Err(stopped) => stopped,
+    };
+    let error = stopped.error;
+    match &stopped.module {
+        Some(module) => {
+            let path = modules.path_of(module.name.as_str())?;
+            Err(refused(alloc, path.as_str(), module.source.as_str(), error))
+        }
+        None => Err(refused(alloc, path, script, error)),
     }
 }
 

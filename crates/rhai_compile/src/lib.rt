@@ -9,6 +9,7 @@ mod blocks;
 mod building;
 mod calls;
 mod coder;
+mod linking;
 mod loops;
 mod parts;
 mod placing;
@@ -16,6 +17,7 @@ mod prelude;
 mod programs;
 mod switches;
 
+pub use linking::{LinkError, MAX_MODULES, Module, Modules, compile_with};
 pub use programs::{compile, compile_syntax};
 pub use rhai_emit::Options;
 pub use rhai_errors::{CompileError, Problem, Thing, report};

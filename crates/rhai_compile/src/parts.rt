@@ -28,6 +28,7 @@ fn value(alloc: Global, texts: &Names, literal: Literal) -> Result<Dynamic, Allo
         Literal::Unit => Ok(Dynamic::Unit),
         Literal::Bool(value) => Ok(Dynamic::Bool(value)),
         Literal::Int(value) => Ok(Dynamic::Int(value)),
+        Literal::Float(value) => Ok(Dynamic::Float(value)),
         Literal::Char(value) => Ok(Dynamic::Char(value)),
         Literal::Text(text) => Ok(Dynamic::Str(String::from_str(alloc, texts.get(text))?)),
     }

@@ -7,7 +7,7 @@
 //! would be found.
 
 use rhai_errors::CompileError;
-use rhai_syntax::Syntax;
+use rhai_syntax::{Syntax, parse_more};
 use std::alloc::{AllocError, Global};
 
 /// A function of the prelude.
@@ -251,8 +251,22 @@ const ENTRIES: &'static [Entry] = &[
     },
 ];
 
+/// The script with the functions of the prelude that it names and doesn't have itself. Their lines are counted on after this
+/// many others.
+pub(crate) fn with_prelude(
+    alloc: Global,
+    syntax: Syntax,
+    lines: u32,
+) -> Result<Syntax, CompileError> {
+    let functions = needed(alloc, &syntax)?;
+    if functions.is_empty() {
+        return Ok(syntax);
+    }
+    parse_more(alloc, functions.as_str(), syntax, None, lines)
+}
+
 /// The functions of the prelude that the script names and doesn't have itself; empty if there are none.
-pub(crate) fn needed(alloc: Global, syntax: &Syntax) -> Result<String, AllocError> {
+fn needed(alloc: Global, syntax: &Syntax) -> Result<String, AllocError> {
     let mut text = String::new(alloc);
     for entry in ENTRIES {
         if is_named(syntax, entry.name) && !is_declared(syntax, entry.name, entry.params) {
@@ -268,18 +282,6 @@ fn add(text: &mut String, entry: &Entry) -> Result<(), AllocError> {
         text.push_str(part)?;
     }
     Ok(())
-}
-
-/// The script with these functions behind it.
-pub(crate) fn with_functions(
-    alloc: Global,
-    source: &str,
-    functions: &str,
-) -> Result<String, CompileError> {
-    let mut text = String::from_str(alloc, source)?;
-    text.push_str("\n;\n")?;
-    text.push_str(functions)?;
-    Ok(text)
 }
 
 /// Whether the script has the name anywhere.

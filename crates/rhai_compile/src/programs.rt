@@ -13,18 +13,21 @@ ghost use Rattle.rhai_errors.specs.Places.{HasPlaces};
 
 use crate::building::{finish, head_of};
 use crate::coder::{Coder, expr};
-use crate::prelude::{needed, with_functions};
+use crate::prelude::with_prelude;
 use grain::{Head, Op, Verified};
 use grain_base::pos::Site;
 use rhai_emit::{Body, Emitter, Options, PoolBuilder, global_constants, split_functions};
-use rhai_errors::{CompileError, Lines};
+use rhai_errors::{CompileError, Lines, Problem, Thing};
 use rhai_syntax::{Expr, MAX_DEPTH, Syntax, parse};
 use std::alloc::Global;
 
 /// How deep code nests: an expression of the source text is several of these levels.
 const MAX_LEVELS: usize = 8 * MAX_DEPTH;
 
-/// Compiles a source text to a verified program. Each chunk declares its depth, and the program the least capabilities that suffice
+/// More lines than come before those of the prelude, so that these have no positions.
+const BEHIND: u32 = 1 << 31;
+
+/// Compiles a source text to a verified program. It can't import modules: [`compile_with`](crate::compile_with) does that. Each chunk declares its depth, and the program the least capabilities that suffice
 /// for it ([`Program::declare_least_caps`](grain::Program::declare_least_caps)). The position of each error, and each position of the
 /// program, lies in the text, unless there is none. It takes time linear in the length of the text, except that the cases of a switch
 /// are read again for each arm with a condition. The code is assembled once, and verified once.
@@ -53,13 +56,12 @@ fn compiled_text(alloc: Global, source: &str, options: &Options) -> Result<Verif
     ensures least { IfOk result (λ built. AreLeast (input_of built.program) built.program.caps.0) }
 {
     let syntax = parse(alloc, source)?;
-    let lines = Lines::new(alloc, source)?;
-    let functions = needed(alloc, &syntax)?;
-    if functions.is_empty() {
-        return compile_syntax(alloc, options, syntax, &lines);
+    if let Some(import) = syntax.interface.imports.first() {
+        return Err(CompileError::new(import.place, Problem::Unsupported(Thing::Import)));
     }
-    let text = with_functions(alloc, source, functions.as_str())?;
-    compile_syntax(alloc, options, parse(alloc, text.as_str())?, &lines)
+    let lines = Lines::new(alloc, source)?;
+    let syntax = with_prelude(alloc, syntax, BEHIND)?;
+    compile_syntax(alloc, options, syntax, &lines)
 }
 
 /// Compiles a syntax tree, as [`compile`] does a source text. The position of each operation is the place of a form of the tree,
@@ -88,10 +90,11 @@ pub fn compile_syntax(
         texts,
         functions,
         body,
+        interface,
     } = syntax;
     let (signatures, bodies) = split_functions(alloc, functions)?;
     let pools = PoolBuilder::new(alloc, names, texts);
-    let constants = global_constants(alloc, &body)?;
+    let constants = global_constants(alloc, &body, interface.constants)?;
     let mut emitter = Emitter::new(alloc, *options, pools, signatures, constants);
     let heads = chunks(&mut emitter, &body, &bodies)?;
     finish(emitter, heads, lines)

@@ -9,7 +9,7 @@ use crate::scope::{Local, Scope};
 use crate::signatures::Signatures;
 use grain_builder::Assembler;
 use rhai_errors::CompileError;
-use rhai_syntax::Literal;
+use rhai_syntax::Constant;
 use std::alloc::Global;
 use std::collections::HashMap;
 
@@ -20,7 +20,7 @@ impl Emitter {
         options: Options,
         pools: PoolBuilder,
         signatures: Signatures,
-        constants: HashMap<u32, Literal>,
+        constants: HashMap<u32, Constant>,
     ) -> Emitter
         ensures around { result.scope.around ≡ None }
         ensures code { result.code ≡ record {

@@ -6,7 +6,7 @@ use crate::pools::PoolBuilder;
 use crate::scope::{Local, Scope};
 use grain_base::pos::Site;
 use grain_builder::Assembler;
-use rhai_syntax::{Binding, Literal};
+use rhai_syntax::{Binding, Constant};
 use std::alloc::Global;
 use std::collections::HashMap;
 
@@ -48,6 +48,6 @@ pub struct Emitter {
     pub signatures: Vec<Signature>,
     /// The functions, by their names.
     pub(crate) declared: Declared,
-    /// The constants that functions read as `global::NAME`.
-    pub(crate) constants: HashMap<u32, Literal>,
+    /// The constants that are read by names with `::`.
+    pub(crate) constants: HashMap<u32, Constant>,
 }

@@ -7,7 +7,7 @@ use crate::declared::Declared;
 use crate::emitter::Signature;
 use grain_base::pos::Site;
 use rhai_errors::CompileError;
-use rhai_syntax::{Expr, Form, Function, Literal};
+use rhai_syntax::{Constant, Expr, Form, Function, Literal};
 use std::alloc::Global;
 use std::collections::{HashMap, HashSet};
 
@@ -60,12 +60,14 @@ pub fn split_functions(
     Ok((Signatures { list, declared }, bodies))
 }
 
-/// The constants of the top level that are declared once and whose values are literals, by their names.
+/// The constants that are read by names with `::`: the given ones, and those of the top level that are declared once and whose
+/// values are literals.
 pub fn global_constants(
     alloc: Global,
     body: &[Expr],
-) -> Result<HashMap<u32, Literal>, CompileError> {
-    let mut constants = HashMap::new(alloc);
+    given: HashMap<u32, Constant>,
+) -> Result<HashMap<u32, Constant>, CompileError> {
+    let mut constants = given;
     let mut seen = HashSet::new(alloc);
     for statement in body {
         let Form::Let(binding, is_const, value) = &statement.form else {
@@ -74,7 +76,7 @@ pub fn global_constants(
         if !seen.insert(binding.name)? {
             let _ = constants.remove(&binding.name);
         } else if *is_const && let Some(literal) = literal_of(value) {
-            let _ = constants.insert(binding.name, literal)?;
+            let _ = constants.insert(binding.name, Constant::Literal(literal))?;
         }
     }
     Ok(constants)

@@ -7,7 +7,8 @@ use crate::emitter::Emitter;
 use crate::scope::{Found, Local, slot_of};
 use grain_base::pos::Site;
 use grain_code::Op;
-use rhai_errors::{CompileError, Problem, Thing};
+use rhai_errors::{CompileError, Problem};
+use rhai_syntax::Constant;
 use std::alloc::AllocError;
 use strsim::levenshtein;
 
@@ -50,16 +51,20 @@ impl Emitter {
         Ok(nearest)
     }
 
-    /// The value of `global::NAME`.
+    /// The value of the constant that is read by a name with `::`. One that isn't a literal is computed anew: nothing but its
+    /// own literals decides about it.
     pub fn qualified(&mut self, place: Site, space: u32, name: u32) -> Result<(), CompileError>
         requires { self.old.code.level.floor ≤ self.old.code.operands }
         ensures written { OnOk result (IsWritten self.old self.new (self.old.code.operands + 1)) }
         ensures placed { OnOk result (AddsPlaces self.old self.new (here place)) }
     {
-        let is_global = self.pools.names.get(space) == "global";
         match self.constants.get(&name).copied() {
-            Some(literal) if is_global => self.literal(place, literal),
-            _ => Err(CompileError::new(place, Problem::Unsupported(Thing::ModuleName))),
+            Some(Constant::Literal(literal)) => self.literal(place, literal),
+            Some(Constant::Computed(function)) => self.call(place, function, 0),
+            None if self.pools.names.get(space) == "global" => {
+                Err(CompileError::new(place, Problem::UnknownGlobal))
+            }
+            None => Err(CompileError::new(place, Problem::NotExported)),
         }
     }
 

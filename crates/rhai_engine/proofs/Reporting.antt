@@ -5,10 +5,12 @@ use Rattle.grain.specs.Program.{Program}
 use Rattle.grain_machine.specs.Resuming.{HasEnded}
 use Rattle.grain_machine.specs.declared.step.Outcome.{Outcome}
 use Rattle.grain_machine.specs.declared.step.Outcome.TheVariants as outcomes
+use Rattle.rhai_values.specs.declared.cause.Cause.{Cause}
+use Rattle.rhai_values.specs.declared.cause.Cause.TheVariants as causes
 use Rattle.rhai_values.specs.declared.value.Value.{Value}
 use Rattle.rhai_values.specs.declared.walk.Walk.{Walk}
 use Rattle.rhai_chains.specs.declared.fault.Fault.{Fault}
-use Rattle.rhai_engine.specs.Ends.{CanEnd, EndsRun, event_of}
+use Rattle.rhai_engine.specs.Ends.{CanEnd, EndsRun, end_by, event_of}
 use Rattle.rhai_engine.specs.Runs.{Continues, IsLast, KeepsStage, MayBegin, stage_chunks, outer_chunks, run_chunks, session, stage_status}
 use Rattle.rhai_engine.specs.Session.{EndsLast, Reports, Session, with_run, outside_of}
 use Rattle.rhai_engine.specs.declared.event.Event.{Event}
@@ -27,11 +29,16 @@ can_end p depth chunk turns at outcomes.OutOfFuel ended = ended.ends
 can_end p depth chunk turns at outcomes.OutOfMemory ended = tt
 can_end p depth chunk turns at outcomes.Unanswered ended = ended.ends
 
+-- the event of a fault reports the end, also if the script ended itself
+reports_fault : (s t : Session) (cause : Cause) (fault : Fault) → EndsLast s t (end_by cause fault) → Reports s t (end_by cause fault)
+reports_fault s t (causes.Exited value) fault ends = ends
+reports_fault s t cause fault ends = ends
+
 -- the event of the end of the last run is one that reports it
 pub reports_end : (s t : Session) (outcome : Outcome Value Fault) → CanEnd outcome → EndsLast s t (event_of outcome) → Reports s t (event_of outcome)
 reports_end s t (outcomes.Returned value) can ends = ends
-reports_end s t (outcomes.Faulted fault) can ends = ends
-reports_end s t (outcomes.Uncatchable fault) can ends = ends
+reports_end s t (outcomes.Faulted fault) can ends = reports_fault s t fault.cause fault ends
+reports_end s t (outcomes.Uncatchable fault) can ends = reports_fault s t fault.cause fault ends
 reports_end s t outcomes.OutOfFuel can ends = absurd can
 reports_end s t outcomes.OutOfMemory can ends = ends
 reports_end s t outcomes.Unanswered can ends = absurd can

@@ -5,6 +5,8 @@ use Rattle.grain.specs.Program.{Program}
 use Rattle.grain_machine.specs.Resuming.{HasEnded}
 use Rattle.grain_machine.specs.declared.step.Outcome.{Outcome}
 use Rattle.grain_machine.specs.declared.step.Outcome.TheVariants as outcomes
+use Rattle.rhai_values.specs.declared.cause.Cause.{Cause}
+use Rattle.rhai_values.specs.declared.cause.Cause.TheVariants as causes
 use Rattle.rhai_values.specs.declared.value.Value.{Value}
 use Rattle.rhai_values.specs.declared.value.Value.TheVariants as values
 use Rattle.rhai_values.specs.declared.walk.Walk.{Walk}
@@ -28,10 +30,18 @@ abbrev pub value_or_unit : Option Value → Value
 value_or_unit (Some value) = value
 value_or_unit None = values.Unit
 
+-- what a script that ends itself gives is returned
+abbrev pub end_by : Cause → Fault → Event
+end_by (causes.Exited value) fault = events.Returned value
+end_by cause fault = events.Failed fault
+
+abbrev pub event_of_fault : Fault → Event
+event_of_fault fault = end_by fault.cause fault
+
 abbrev pub event_of : Outcome Value Fault → Event
 event_of (outcomes.Returned value) = events.Returned (value_or_unit value)
-event_of (outcomes.Faulted fault) = events.Failed fault
-event_of (outcomes.Uncatchable fault) = events.Failed fault
+event_of (outcomes.Faulted fault) = event_of_fault fault
+event_of (outcomes.Uncatchable fault) = event_of_fault fault
 event_of outcomes.OutOfFuel = events.Paused
 event_of outcomes.OutOfMemory = events.OutOfMemory
 event_of outcomes.Unanswered = events.Calls

@@ -1,10 +1,10 @@
 //! What happens to the runs of a state, and why its calls are refused.
 ghost use Rattle.std.specs.Prelude.{◌≡◌};
-ghost use Rattle.rhai_engine.specs.Ends.{CanEnd, event_of};
+ghost use Rattle.rhai_engine.specs.Ends.{CanEnd, event_of, event_of_fault};
 
 use grain_machine::Outcome;
 use rhai_runtime::Fault;
-use rhai_values::Value;
+use rhai_values::{Cause, Value};
 use std::alloc::AllocError;
 
 /// The status of the last run of a state.
@@ -90,6 +90,19 @@ impl From<AllocError> for VariableError {
     }
 }
 
+/// The event of a run that ended by this fault, which is none if the script ended itself.
+fn event_of_fault(fault: Fault) -> Event
+    ensures { result ≡ event_of_fault fault }
+{
+    match fault {
+        Fault {
+            cause: Cause::Exited(value),
+            ..
+        } => Event::Returned(value),
+        fault => Event::Failed(fault),
+    }
+}
+
 /// The event of a run that has ended so.
 pub(crate) fn event_of_end(outcome: Outcome<Value, Fault>) -> Event
     requires { CanEnd outcome }
@@ -98,7 +111,7 @@ pub(crate) fn event_of_end(outcome: Outcome<Value, Fault>) -> Event
     match outcome {
         Outcome::Returned(Some(value)) => Event::Returned(value),
         Outcome::Returned(None) => Event::Returned(Value::Unit),
-        Outcome::Faulted(fault) | Outcome::Uncatchable(fault) => Event::Failed(fault),
+        Outcome::Faulted(fault) | Outcome::Uncatchable(fault) => event_of_fault(fault),
         Outcome::OutOfMemory => Event::OutOfMemory,
         Outcome::OutOfFuel | Outcome::Unanswered => unreachable!(),
     }

@@ -1,7 +1,7 @@
 //! The world of scripts in the process of a host.
 
 use rhai_runtime::World;
-use rhai_values::Cause;
+use rhai_values::{Cause, Failing};
 use std::alloc::{AllocError, Global};
 use std::collections::BTreeMap;
 
@@ -57,7 +57,8 @@ impl World for Outside {
     fn print(&mut self, line: &str) -> Result<(), Cause> {
         let added = line.len().saturating_add(1);
         if self.printed.len().saturating_add(added) > self.limit {
-            return Err(Cause::World(String::from_str(self.alloc, "Too much output")?));
+            let why = String::from_str(self.alloc, "Too much output")?;
+            return Err(Cause::Told(Failing::World, why));
         }
         self.printed.reserve(added)?;
         self.printed.push_str(line)?;

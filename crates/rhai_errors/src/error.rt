@@ -6,10 +6,149 @@ use std::alloc::{AllocError, AllocFailed};
 use std::fmt;
 use thiserror::Error;
 
+/// A word or a sign that is reserved, and has no meaning.
+#[derive(Clone, Copy, Debug, PartialEq, Eq, Drop)]
+pub enum Reserved {
+    /// `async`
+    Async,
+    /// `await`
+    Await,
+    /// `case`
+    Case,
+    /// `:=`
+    ColonEquals,
+    /// `--`
+    Decrement,
+    /// `default`
+    Default,
+    /// `go`
+    Go,
+    /// `goto`
+    Goto,
+    /// `===`
+    Identical,
+    /// `++`
+    Increment,
+    /// `is`
+    Is,
+    /// `match`
+    Match,
+    /// `module`
+    Module,
+    /// `new`
+    New,
+    /// `nil`
+    Nil,
+    /// `!==`
+    NotIdentical,
+    /// `null`
+    Null,
+    /// `package`
+    Package,
+    /// `protected`
+    Protected,
+    /// `public`
+    Public,
+    /// `shared`
+    Shared,
+    /// `spawn`
+    Spawn,
+    /// `static`
+    Static,
+    /// `super`
+    Super,
+    /// `sync`
+    Sync,
+    /// `thread`
+    Thread,
+    /// `use`
+    Use,
+    /// `var`
+    Var,
+    /// `void`
+    Void,
+    /// `with`
+    With,
+    /// `yield`
+    Yield,
+}
+
+impl Reserved {
+    fn text(self) -> &'static str {
+        match self {
+            Reserved::Async => "async",
+            Reserved::Await => "await",
+            Reserved::Case => "case",
+            Reserved::ColonEquals => ":=",
+            Reserved::Decrement => "--",
+            Reserved::Default => "default",
+            Reserved::Go => "go",
+            Reserved::Goto => "goto",
+            Reserved::Identical => "===",
+            Reserved::Increment => "++",
+            Reserved::Is => "is",
+            Reserved::Match => "match",
+            Reserved::Module => "module",
+            Reserved::New => "new",
+            Reserved::Nil => "nil",
+            Reserved::NotIdentical => "!==",
+            Reserved::Null => "null",
+            Reserved::Package => "package",
+            Reserved::Protected => "protected",
+            Reserved::Public => "public",
+            Reserved::Shared => "shared",
+            Reserved::Spawn => "spawn",
+            Reserved::Static => "static",
+            Reserved::Super => "super",
+            Reserved::Sync => "sync",
+            Reserved::Thread => "thread",
+            Reserved::Use => "use",
+            Reserved::Var => "var",
+            Reserved::Void => "void",
+            Reserved::With => "with",
+            Reserved::Yield => "yield",
+        }
+    }
+
+    /// What has the meaning that other languages give it.
+    fn instead(self) -> Option<&'static str> {
+        match self {
+            Reserved::ColonEquals => Some("="),
+            Reserved::Decrement => Some("-= 1"),
+            Reserved::Default => Some("_"),
+            Reserved::Identical => Some("=="),
+            Reserved::Increment => Some("+= 1"),
+            Reserved::Match => Some("switch"),
+            Reserved::NotIdentical => Some("!="),
+            Reserved::Null | Reserved::Nil | Reserved::Void => Some("()"),
+            Reserved::Use => Some("import"),
+            Reserved::Var => Some("let"),
+            _ => None,
+        }
+    }
+}
+
+impl fmt::Display for Reserved {
+    fn fmt<W: fmt::Write>(&self, f: &mut fmt::Formatter<W>) -> fmt::Result {
+        let text = self.text();
+        match self.instead() {
+            Some(instead) => {
+                write!(
+                    f,
+                    "`{text}` is reserved and has no meaning: write `{instead}`"
+                )
+            }
+            None => write!(f, "`{text}` is reserved and has no meaning"),
+        }
+    }
+}
+
 /// What a problem is about. It is an enum and not a text, since an error type that a recursive parser returns through a
 /// function parameter can name no lifetime.
 #[derive(Clone, Copy, Debug, PartialEq, Eq, Drop)]
 pub enum Thing {
+    /// The name that `import` gives a module.
+    Alias,
     /// The arguments of a call.
     Arguments,
     /// `=>`
@@ -44,8 +183,6 @@ pub enum Thing {
     Expression,
     /// `fn`
     Fn,
-    /// A floating point number or a decimal.
-    Fraction,
     /// A function.
     Function,
     /// The name of a function.
@@ -66,8 +203,10 @@ pub enum Thing {
     LeftParen,
     /// The name after a point.
     MemberName,
-    /// A name with `::`.
-    ModuleName,
+    /// The name of a module, as a string.
+    ModuleText,
+    /// Modules.
+    Modules,
     /// A name.
     Name,
     /// Names of the pool.
@@ -115,6 +254,7 @@ pub enum Thing {
 impl Thing {
     fn text(self) -> &'static str {
         match self {
+            Thing::Alias => "name of a module",
             Thing::Arguments => "arguments",
             Thing::Arrow => "`=>`",
             Thing::Case => "case",
@@ -132,7 +272,6 @@ impl Thing {
             Thing::Export => "`export`",
             Thing::Expression => "an expression",
             Thing::Fn => "`fn`",
-            Thing::Fraction => "a floating point number",
             Thing::Function => "function",
             Thing::FunctionName => "the name of a function",
             Thing::Import => "`import`",
@@ -143,7 +282,8 @@ impl Thing {
             Thing::LeftBrace => "`{`",
             Thing::LeftParen => "`(`",
             Thing::MemberName => "the name of a property or a method",
-            Thing::ModuleName => "a name with `::`",
+            Thing::ModuleText => "the name of a module in double quotes",
+            Thing::Modules => "modules",
             Thing::Name => "a name",
             Thing::Names => "names",
             Thing::Operations => "operations",
@@ -196,9 +336,12 @@ pub enum Problem {
     /// The number doesn't fit 64 bits.
     #[error("this number doesn't fit 64 bits")]
     NumberTooLarge,
+    /// A literal in single quotes isn't one character.
+    #[error("single quotes are for one character: a string has double quotes")]
+    NotOneCharacter,
     /// The word or the sign is reserved.
-    #[error("this is reserved and has no meaning")]
-    Reserved,
+    #[error("{0}")]
+    Reserved(Reserved),
     /// The name is that of a function of the language, and can't be declared.
     #[error("this name is reserved for a function of the language")]
     ReservedName,
@@ -238,6 +381,33 @@ pub enum Problem {
     /// Expressions nest too deep.
     #[error("expressions nest too deep here")]
     TooDeep,
+    /// No `import` of the text gives a module this name.
+    #[error("no `import` gives a module this name")]
+    UnknownModule,
+    /// Where modules are sought there is none of this name.
+    #[error("there is no module of this name")]
+    NoSuchModule,
+    /// A module imports itself, maybe by others.
+    #[error("this module imports itself, directly or by others")]
+    CyclicImport,
+    /// The module has no such function that others may call.
+    #[error("the module has no public function of this name with so many parameters")]
+    NoSuchFunction,
+    /// The module exports no such constant.
+    #[error("the module exports no constant of this name")]
+    NotExported,
+    /// No constant that functions see has this name.
+    #[error("`global::` has only constants of the top level, of literals and operators on these")]
+    UnknownGlobal,
+    /// A module has a statement that isn't a declaration.
+    #[error("a module has only functions, constants and imports")]
+    ModuleStatement,
+    /// A variable or constant of a module is computed when the script runs.
+    #[error("a module's constant is made of literals and operators on these")]
+    ComputedExport,
+    /// This is in a block or a function.
+    #[error("{0} is only allowed outside of blocks and functions")]
+    NotAtTop(Thing),
     /// There are more of these than code can number.
     #[error("there are too many {0}")]
     TooMany(Thing),

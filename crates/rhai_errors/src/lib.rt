@@ -8,6 +8,6 @@ mod excerpt;
 mod lines;
 mod places;
 
-pub use error::{CompileError, Problem, Thing};
+pub use error::{CompileError, Problem, Reserved, Thing};
 pub use excerpt::report;
 pub use lines::Lines;

@@ -73,4 +73,27 @@ impl CompileError {
     {
         CompileError::new(confine(self.place, source), self.problem.within(source))
     }
+    /// The error in one of several texts whose lines are counted on: with the lines of that text, of which this many lines of
+    /// other texts come first.
+    #[must_use]
+    pub fn counted_from(self, lines: u32) -> CompileError {
+        let problem = match self.problem {
+            Problem::Unclosed(thing, opened) => Problem::Unclosed(thing, above(opened, lines)),
+            Problem::UnknownVariable(similar) => Problem::UnknownVariable(above(similar, lines)),
+            problem => problem,
+        };
+        CompileError::new(above(self.place, lines), problem)
+    }
+}
+
+/// The place this many lines above, or none if there aren't as many.
+fn above(place: Site, lines: u32) -> Site {
+    if place.line > lines {
+        Site {
+            line: place.line - lines,
+            column: place.column,
+        }
+    } else {
+        Site::NONE
+    }
 }

@@ -2,10 +2,12 @@
 use Rattle.std.proofs.Common.{◌≡◌, ℕ, suc, zero, ◌≤◌, ℤ, pos, eqb, true, false, cond, List, [], ◌∷◌, ◌++◌, length, take, drop, Option, None, Some, refl, ap, ◌∙◌, append_assoc, length-append, arith}
 use Rattle.std.proofs.lemmas.List.{drop_at, take_at}
 use Rattle.std.specs.Int.RustNames.{unsigned_abs}
-use Rattle.grain_format.specs.Form.{Form, Forms, Entries, unit, boolean, integer, character, text, range, range_inclusive, array, blob, object_map, fn_ptr, shared, host, no_forms, form_then, no_entries, entry_then, listed_forms, listed_entries}
-use Rattle.grain_flat_file.specs.Values.{counted_row, rows_of_entries, rows_of_forms, texts_of_entries, texts_of_forms, value_row, value_rows, value_texts}
+use Rattle.std.specs.Int.{w64, cast_unsigned}
+use Rattle.grain_format.specs.Form.{Form, Forms, Entries, unit, boolean, integer, character, text, range, range_inclusive, array, blob, object_map, fn_ptr, shared, host, float, no_forms, form_then, no_entries, entry_then, listed_forms, listed_entries}
+use Rattle.grain_flat_file.specs.Values.{counted_row, float_number, rows_of_entries, rows_of_forms, texts_of_entries, texts_of_forms, value_row, value_rows, value_texts}
 use Rattle.grain_flat_file.specs.declared.records.CValue.{CValue}
 use Rattle.grain_flat_file.specs.declared.tags.TheConstants as tags
+use Rattle.grain_flat_file.proofs.FloatNumbers.{bits_back}
 use Rattle.rhai_flat.specs.Rows.{AreOfRun}
 
 -- what rows and bytes begin with, and what is left of them
@@ -50,7 +52,8 @@ module _ (one : List CValue → List ℕ → Found Form) where
       (cond (eqb r.tag tags.ARRAY) (found (forms_at r.count rs ts) (λ xs rest left. Some (array xs, rest, left)))
       (cond (eqb r.tag tags.MAP) (found (named_at r.count rs ts) (λ es rest left. Some (object_map es, rest, left)))
       (cond (eqb r.tag tags.FN_PTR) (found (name_at rs ts) (λ name rs' ts'. found (forms_at r.count rs' ts') (λ xs rest left. Some (fn_ptr name xs, rest, left))))
-      (cond (eqb r.tag tags.SHARED) (found (one rs ts) (λ x rest left. Some (shared x, rest, left))) None))))))))))))
+      (cond (eqb r.tag tags.SHARED) (found (one rs ts) (λ x rest left. Some (shared x, rest, left)))
+      (cond (eqb r.tag tags.FLOAT) (Some (float (cast_unsigned w64 r.number), rs, ts)) None)))))))))))))
 
 -- in which values are nested less deep than that
 pub form_at : ℕ → List CValue → List ℕ → Found Form
@@ -105,7 +108,8 @@ mutual
   form_back (shared x) (suc n) rs ts le p =
       form_at-row (suc n) (counted_row tags.SHARED 0) (value_rows x ++ rs) (value_texts x ++ ts)
       ∙ ap (λ (f : Found Form). found f (λ y rest left. Some (shared y, rest, left))) (form_back x n rs ts (omega arith) p.1)
-  form_back (host t i) n rs ts le p = absurd (omega arith)
+  form_back (host t i) n rs ts le p = absurd (let none : false ≡ true = p.0 in cc)
+  form_back (float b) n rs ts le p = form_at-row n (value_row tags.FLOAT 0 (float_number b)) rs ts ∙ ap (λ (m : ℕ). Some (float m, rs, ts)) (bits_back b)
 
   forms_back : (xs : Forms) (n : ℕ) (rs : List CValue) (ts : List ℕ) → length (rows_of_forms xs) ≤ n → AreOfRun (rows_of_forms xs) → forms_at (form_at (suc n)) (length (listed_forms xs)) (rows_of_forms xs ++ rs) (texts_of_forms xs ++ ts) ≡ Some (xs, rs, ts)
   forms_back no_forms n rs ts le p = refl

@@ -6,4 +6,5 @@ mod ReadInside
 mod ReadRows
 mod RowsInside
 mod SameForms
+mod Settled
 mod WrittenInside

@@ -3,7 +3,7 @@ use Rattle.std.proofs.Common.{◌≡◌, ℕ, ◌+◌, pos, Bool, true, false, c
 use Rattle.std.proofs.lemmas.Bool.{false≢true}
 use Rattle.grain_flat_file.specs.Values.{has_bytes, placed_row, placed_rows, row_bytes}
 use Rattle.grain_flat_file.specs.declared.records.CValue.{CValue}
-use Rattle.rhai_flat.specs.Rows.{AreOfRun, bytes_of_rows}
+use Rattle.rhai_flat.specs.Rows.{AreOfRun, bytes_of_rows, is_of_run}
 
 placed_append : (from : ℕ) (a b : List CValue) → placed_rows from (a ++ b) ≡ placed_rows from a ++ placed_rows (from + bytes_of_rows a) b
 placed_append from [] b = ap (λ (n : ℕ). placed_rows n b) (omega arith)
@@ -39,12 +39,10 @@ pub of_run_before : (from : ℕ) (rs : List CValue) → AreOfRun (placed_rows fr
 of_run_before from [] p = tt
 of_run_before from (r ∷ rs) p =
     let same = tag_stays (has_bytes r.tag) from r refl in
-    let low = p.0 in
-    (omega arith, of_run_before (from + row_bytes r) rs p.1)
+    (ap is_of_run (sym same) ∙ p.0, of_run_before (from + row_bytes r) rs p.1)
 
 pub of_run_placed : (from : ℕ) (rs : List CValue) → AreOfRun rs → AreOfRun (placed_rows from rs)
 of_run_placed from [] p = tt
 of_run_placed from (r ∷ rs) p =
     let same = tag_stays (has_bytes r.tag) from r refl in
-    let low = p.0 in
-    (omega arith, of_run_placed (from + row_bytes r) rs p.1)
+    (ap is_of_run same ∙ p.0, of_run_placed (from + row_bytes r) rs p.1)

@@ -3,7 +3,7 @@ use Rattle.std.proofs.Common.{◌≡◌, ℕ, suc, ◌+◌, ◌<◌, pos, true, 
 use Rattle.std.proofs.lemmas.List.{map-append}
 use Rattle.std.specs.List.{flat_map}
 use Rattle.std.specs.Prelude.{unwrap_or}
-use Rattle.grain_format.specs.Form.{Form, Forms, Entries, unit, boolean, integer, character, text, range, range_inclusive, array, blob, object_map, fn_ptr, shared, host, no_forms, form_then, no_entries, entry_then, listed_forms, listed_entries}
+use Rattle.grain_format.specs.Form.{Form, Forms, Entries, unit, boolean, integer, character, text, range, range_inclusive, array, blob, object_map, fn_ptr, shared, host, float, no_forms, form_then, no_entries, entry_then, listed_forms, listed_entries}
 use Rattle.grain_flat_file.specs.Values.{counted_row, has_bytes, placed_row, placed_rows, row_bytes, rows_of_entries, rows_of_forms, value_rows, value_texts}
 use Rattle.grain_flat_file.specs.declared.records.CValue.{CValue}
 use Rattle.grain_flat_file.specs.declared.tags.TheConstants as tags
@@ -26,6 +26,7 @@ some_rows (object_map es) = omega arith
 some_rows (fn_ptr name xs) = omega arith
 some_rows (shared x) = omega arith
 some_rows (host t i) = omega arith
+some_rows (float b) = omega arith
 
 same_inside : {A : Type 0} (a b : A) → Some a ≡ Some b → a ≡ b
 same_inside a b e = ap (λ (o : Option _). unwrap_or o a) e
@@ -87,6 +88,7 @@ mutual
   bare_rows (fn_ptr name xs) = ap (λ (rs : List CValue). counted_row tags.FN_PTR (length (listed_forms xs)) ∷ counted_row tags.TEXT (length name) ∷ rs) (bare_forms xs)
   bare_rows (shared x) = ap (λ (rs : List CValue). counted_row tags.SHARED 0 ∷ rs) (bare_rows x)
   bare_rows (host t i) = refl
+  bare_rows (float b) = refl
 
   bare_forms : (xs : Forms) → map bare (rows_of_forms xs) ≡ rows_of_forms xs
   bare_forms no_forms = refl

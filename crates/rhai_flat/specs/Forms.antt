@@ -1,7 +1,8 @@
 -- A value of a run apart from where it is in memory: as the form that a constant has.
-use Rattle.std.specs.Prelude.{ℕ, Bool, true, false, List, [], map, String, string_bytes}
+use Rattle.std.specs.Prelude.{ℕ, Bool, true, false, List, [], map, String, string_bytes, to_bits}
 use Rattle.std.specs.declared.alloc.Global.{Global}
-use Rattle.grain_format.specs.Form.{Form, unit, boolean, integer, character, text, range, range_inclusive, array, blob, object_map, fn_ptr, shared, host, forms_of, form_entries_of}
+use lib.Ieee.{binary64}
+use Rattle.grain_format.specs.Form.{Form, unit, boolean, integer, character, text, range, range_inclusive, array, blob, object_map, fn_ptr, shared, host, float, forms_of, form_entries_of}
 use Rattle.rhai_values.specs.declared.interval.Interval.{Interval}
 use Rattle.rhai_values.specs.declared.value.Foreign.{Foreign}
 use Rattle.rhai_values.specs.declared.value.Value.{Value, fold-Value}
@@ -32,6 +33,7 @@ flat_step (Value-F.Map m) = m.value
 flat_step (Value-F.Pointer p) = p.value
 flat_step (Value-F.Foreign f) = foreign_form f.value
 flat_step (Value-F.Shared i) = host [] i.value
+flat_step (Value-F.Float x) = float (to_bits binary64 x)
 
 abbrev pub flat_list_step : List-F Form Form Form Form → Form
 flat_list_step l = array (forms_of l.items.items)

@@ -1,13 +1,15 @@
 //! Rows and bytes that weren't read yet.
 ghost use Rattle.std.specs.Prelude.{◌≡◌, ◌+◌, ◌∷◌, ◌++◌, [], IfErr, IfOk, OnOk, length, pos};
+ghost use Rattle.std.specs.Int.{w64, cast_unsigned};
 ghost use Rattle.grain_flat_file.specs.Values.{counted_row, value_row};
 ghost use Rattle.grain_flat_file.specs.declared.tags.TheConstants as tags;
-ghost use Rattle.rhai_flat.specs.Rows.{AreRead, IsRowTaken};
+ghost use Rattle.rhai_flat.specs.Rows.{AreRead, IsRowTaken, settled};
 ghost use Rattle.rhai_flat.specs.declared.bad_value.BadValue.{BadValue};
 
 use crate::bad_value::BadValue;
+use grain_base::Float;
 use grain_flat_file::CValue;
-use grain_flat_file::tags::{INTEGER, RANGE, TEXT};
+use grain_flat_file::tags::{FLOAT, INTEGER, RANGE, TEXT};
 use std::alloc::Global;
 use std::str;
 
@@ -25,7 +27,8 @@ pub(crate) struct Reader<'a> {
 }
 
 impl<'a> Reader<'a> {
-    /// Reads a row.
+    /// Reads a row. It has the bits of the one NaN, if those that it has are of any.
+    #[tactic(auto, using(crate::proofs::Settled::settled_front, crate::proofs::Settled::settled_stays))]
     pub(crate) fn row(&mut self) -> Result<CValue, BadValue>
         ensures row { IfOk result (λ row. IsRowTaken self.old row self.new) }
         ensures none { IfErr result (λ e. (e ≡ BadValue.TooFewRows) × (self.old.rows.now ≡ [])) }
@@ -34,7 +37,7 @@ impl<'a> Reader<'a> {
         match self.rows.split_first() {
             Some((row, rest)) => {
                 self.rows = rest;
-                Ok(*row)
+                Ok(settle(*row))
             }
             None => Err(BadValue::TooFewRows),
         }
@@ -113,6 +116,31 @@ impl<'a> Reader<'a> {
         }
         has_fields(row, 0, row.number)?;
         Ok(row.number)
+    }
+}
+
+/// The row with the bits of the one NaN, if it has those of any.
+#[tactic(auto, using(grain_flat_file::proofs::FloatNumbers::number_of_bits), unfolding(crate::specs::Rows::settled))]
+fn settle(row: CValue) -> CValue
+    ensures { result ≡ settled row }
+{
+    if row.tag != FLOAT {
+        return row;
+    }
+    let number = Float::of(float(row).number());
+    CValue {
+        tag: row.tag,
+        count: row.count,
+        number: number.bits.cast_signed(),
+    }
+}
+
+/// The floating-point number of a row.
+pub(crate) fn float(row: CValue) -> Float
+    ensures { result.bits ≡ cast_unsigned w64 row.number }
+{
+    Float {
+        bits: row.number.cast_unsigned(),
     }
 }
 

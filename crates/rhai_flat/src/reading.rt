@@ -7,15 +7,15 @@ ghost use Rattle.std.specs.Ordering.{nat_cmp};
 ghost use Rattle.std.specs.declared.cmp.Ordering.{Ordering};
 ghost use Rattle.grain_flat_file.specs.declared.tags.TheConstants as tags;
 ghost use Rattle.rhai_flat.specs.Forms.{flat_entries, flat_form, flat_forms};
-ghost use Rattle.rhai_flat.specs.Rows.{AreEntriesRead, AreFormsRead, AreOfRun, AreRowsOf, IsFormRead, IsFormReadBehind};
+ghost use Rattle.rhai_flat.specs.Rows.{AreEntriesRead, AreFormsRead, AreOfRun, AreRowsOf, IsFormRead, IsFormReadBehind, settled_rows};
 ghost use Rattle.rhai_flat.specs.declared.bad_value.BadValue.{BadValue};
 
 use crate::bad_value::{BadValue, MAX_DEPTH};
-use crate::reader::{Reader, character, has_fields};
+use crate::reader::{Reader, character, float, has_fields};
 use grain_flat_file::CValue;
 use grain_flat_file::tags::{
-    ARRAY, BLOB, CHARACTER, FALSE, FN_PTR, INTEGER, MAP, RANGE, RANGE_INCLUSIVE, SHARED, TEXT,
-    TRUE, UNIT,
+    ARRAY, BLOB, CHARACTER, FALSE, FLOAT, FN_PTR, INTEGER, MAP, RANGE, RANGE_INCLUSIVE, SHARED,
+    TEXT, TRUE, UNIT,
 };
 use rhai_values::{Foreign, Interval, List, Object, Pointer, SizeLimits, Text, Value};
 use std::alloc::Global;
@@ -25,7 +25,9 @@ use std::rc::Rc;
 /// The values of rows, of which there are `count`. `texts` has the bytes of their texts and blobs.
 ///
 /// The rows and bytes are those that [`FlatValues`](crate::FlatValues) has of these values, and no others have the same
-/// ([`rows_tell_forms`](crate::rows_tell_forms)). So values that are written and read back keep their flat form.
+/// ([`rows_tell_forms`](crate::rows_tell_forms)). So values that are written and read back keep their flat form. Only NaN is read
+/// from each of its bits, as the one NaN that [`FlatValues`](crate::FlatValues) writes: all other numbers keep theirs
+/// ([`numbers_keep_bits`](crate::numbers_keep_bits)).
 ///
 /// The rows may come from a stranger. It takes time and memory linear in the rows and texts, n log n for a map of n entries.
 ///
@@ -44,7 +46,7 @@ pub fn read_values(
 ) -> Result<Vec<Value>, BadValue>
     ensures count { IfOk result (λ values. length values.items ≡ count) }
     ensures rows { IfOk result (λ values.
-        AreRowsOf rows.now texts.now (flat_forms values.items)) }
+        AreRowsOf (settled_rows rows.now) texts.now (flat_forms values.items)) }
     ensures tags { OnOk result (AreOfRun rows.now) }
     ensures depth { MAX_DEPTH < limits.depth → result ≡ Err BadValue.DepthLimit }
 {
@@ -73,7 +75,7 @@ pub fn read_one(
     limits: SizeLimits,
 ) -> Result<Value, BadValue>
     ensures rows { IfOk result (λ value.
-        AreRowsOf rows.now texts.now (flat_form value ∷ [])) }
+        AreRowsOf (settled_rows rows.now) texts.now (flat_form value ∷ [])) }
     ensures tags { OnOk result (AreOfRun rows.now) }
     ensures depth { MAX_DEPTH < limits.depth → result ≡ Err BadValue.DepthLimit }
 {
@@ -183,6 +185,10 @@ fn read_single(reader: &mut Reader<'_>, row: CValue) -> Result<Value, BadValue>
         RANGE => read_range(reader, row, false),
         RANGE_INCLUSIVE => read_range(reader, row, true),
         SHARED => read_foreign(reader, row),
+        FLOAT => {
+            has_fields(row, 0, row.number)?;
+            Ok(Value::Float(float(row).number()))
+        }
         tag => Err(BadValue::UnknownTag(tag)),
     }
 }

@@ -1,14 +1,17 @@
 //! Values as rows.
-ghost use Rattle.std.specs.Prelude.{◌≡◌, ◌∷◌, [], ◌++◌, false, true, OnOk, OnErr, length, pos};
+ghost use lib.Ieee.{binary64};
+ghost use Rattle.std.specs.Prelude.{◌≡◌, ◌∷◌, [], ◌++◌, false, true, OnOk, OnErr, length, pos, to_bits};
+ghost use Rattle.grain_format.specs.Form as form;
 ghost use Rattle.std.specs.List.{flat_map};
 ghost use Rattle.grain_flat_file.specs.Values.{counted_row, entry_rows, entry_texts, has_bytes, value_row, value_rows, value_texts};
 ghost use Rattle.rhai_flat.specs.Forms.{flat_entries, flat_form, flat_forms, flat_list, flat_object, flat_pointer, foreign_form, range_form};
 ghost use Rattle.rhai_flat.specs.Rows.{IsAppended};
 
+use grain_base::Float;
 use grain_flat_file::CValue;
 use grain_flat_file::tags::{
-    ARRAY, BLOB, CHARACTER, FALSE, FN_PTR, INTEGER, MAP, RANGE, RANGE_INCLUSIVE, SHARED, TEXT,
-    TRUE, UNIT,
+    ARRAY, BLOB, CHARACTER, FALSE, FLOAT, FN_PTR, INTEGER, MAP, RANGE, RANGE_INCLUSIVE, SHARED,
+    TEXT, TRUE, UNIT,
 };
 use rhai_values::{Cause, Foreign, Interval, List, Object, Pointer, Value};
 use std::alloc::Global;
@@ -136,6 +139,15 @@ impl FlatValues {
         self.push_plain(INTEGER, 0, range.to)
     }
 
+    /// Appends a floating-point number.
+    #[tactic(auto, using(grain_flat_file::proofs::FloatNumbers::number_of_bits))]
+    fn push_float(&mut self, number: f64) -> Result<(), Cause>
+        ensures { OnOk result (IsAppended self.old self.new
+            (value_rows (form.float (to_bits binary64 number))) []) }
+    {
+        self.push_plain(FLOAT, 0, Float::of(number).bits.cast_signed())
+    }
+
     /// Appends a value of the host.
     fn push_foreign(&mut self, foreign: &Foreign) -> Result<(), Cause>
         ensures { OnOk result (IsAppended self.old self.new
@@ -165,6 +177,7 @@ impl FlatValues {
             Value::Map(object) => self.add_map(object),
             Value::Pointer(pointer) => self.add_pointer(pointer),
             Value::Foreign(foreign) => self.push_foreign(foreign),
+            Value::Float(x) => self.push_float(*x),
             Value::Shared(_) => Err(Cause::Unsupported),
         }
     }

@@ -1,6 +1,8 @@
 //! Lexemes: the words, signs and literals of a source text.
 
+use grain_base::Float;
 use grain_base::pos::Site;
+use rhai_errors::Reserved;
 
 /// An operator between two operands, or before one.
 #[derive(Clone, Copy, Debug, PartialEq, Eq)]
@@ -107,7 +109,7 @@ pub enum Mark {
     /// `export`
     Export,
     /// A word or a sign that is reserved and has no meaning.
-    Reserved,
+    Reserved(Reserved),
     /// `_`
     Underscore,
     /// `(`
@@ -145,10 +147,12 @@ pub enum Mark {
 }
 
 /// What a lexeme is.
-#[derive(Clone, Copy, Debug)]
+#[derive(Clone, Copy)]
 pub enum Kind {
     /// An integer.
     Int(i64),
+    /// A floating point number.
+    Float(Float),
     /// A character.
     Char(char),
     /// A text, by its index.
@@ -170,7 +174,7 @@ pub enum Kind {
 }
 
 /// A lexeme and where it begins.
-#[derive(Clone, Copy, Debug)]
+#[derive(Clone, Copy)]
 pub struct Lexeme {
     /// What it is.
     pub kind: Kind,
@@ -205,32 +209,32 @@ const WORDS: [(&str, Kind); 51] = [
     ("import", Kind::Mark(Mark::Import)),
     ("export", Kind::Mark(Mark::Export)),
     ("_", Kind::Mark(Mark::Underscore)),
-    ("var", Kind::Mark(Mark::Reserved)),
-    ("static", Kind::Mark(Mark::Reserved)),
-    ("shared", Kind::Mark(Mark::Reserved)),
-    ("is", Kind::Mark(Mark::Reserved)),
-    ("goto", Kind::Mark(Mark::Reserved)),
-    ("match", Kind::Mark(Mark::Reserved)),
-    ("case", Kind::Mark(Mark::Reserved)),
-    ("public", Kind::Mark(Mark::Reserved)),
-    ("protected", Kind::Mark(Mark::Reserved)),
-    ("new", Kind::Mark(Mark::Reserved)),
-    ("use", Kind::Mark(Mark::Reserved)),
-    ("with", Kind::Mark(Mark::Reserved)),
-    ("module", Kind::Mark(Mark::Reserved)),
-    ("package", Kind::Mark(Mark::Reserved)),
-    ("super", Kind::Mark(Mark::Reserved)),
-    ("thread", Kind::Mark(Mark::Reserved)),
-    ("spawn", Kind::Mark(Mark::Reserved)),
-    ("go", Kind::Mark(Mark::Reserved)),
-    ("await", Kind::Mark(Mark::Reserved)),
-    ("async", Kind::Mark(Mark::Reserved)),
-    ("sync", Kind::Mark(Mark::Reserved)),
-    ("yield", Kind::Mark(Mark::Reserved)),
-    ("default", Kind::Mark(Mark::Reserved)),
-    ("void", Kind::Mark(Mark::Reserved)),
-    ("null", Kind::Mark(Mark::Reserved)),
-    ("nil", Kind::Mark(Mark::Reserved)),
+    ("var", Kind::Mark(Mark::Reserved(Reserved::Var))),
+    ("static", Kind::Mark(Mark::Reserved(Reserved::Static))),
+    ("shared", Kind::Mark(Mark::Reserved(Reserved::Shared))),
+    ("is", Kind::Mark(Mark::Reserved(Reserved::Is))),
+    ("goto", Kind::Mark(Mark::Reserved(Reserved::Goto))),
+    ("match", Kind::Mark(Mark::Reserved(Reserved::Match))),
+    ("case", Kind::Mark(Mark::Reserved(Reserved::Case))),
+    ("public", Kind::Mark(Mark::Reserved(Reserved::Public))),
+    ("protected", Kind::Mark(Mark::Reserved(Reserved::Protected))),
+    ("new", Kind::Mark(Mark::Reserved(Reserved::New))),
+    ("use", Kind::Mark(Mark::Reserved(Reserved::Use))),
+    ("with", Kind::Mark(Mark::Reserved(Reserved::With))),
+    ("module", Kind::Mark(Mark::Reserved(Reserved::Module))),
+    ("package", Kind::Mark(Mark::Reserved(Reserved::Package))),
+    ("super", Kind::Mark(Mark::Reserved(Reserved::Super))),
+    ("thread", Kind::Mark(Mark::Reserved(Reserved::Thread))),
+    ("spawn", Kind::Mark(Mark::Reserved(Reserved::Spawn))),
+    ("go", Kind::Mark(Mark::Reserved(Reserved::Go))),
+    ("await", Kind::Mark(Mark::Reserved(Reserved::Await))),
+    ("async", Kind::Mark(Mark::Reserved(Reserved::Async))),
+    ("sync", Kind::Mark(Mark::Reserved(Reserved::Sync))),
+    ("yield", Kind::Mark(Mark::Reserved(Reserved::Yield))),
+    ("default", Kind::Mark(Mark::Reserved(Reserved::Default))),
+    ("void", Kind::Mark(Mark::Reserved(Reserved::Void))),
+    ("null", Kind::Mark(Mark::Reserved(Reserved::Null))),
+    ("nil", Kind::Mark(Mark::Reserved(Reserved::Nil))),
 ];
 
 /// The keyword of this spelling, if it is one.
@@ -245,15 +249,19 @@ pub(crate) fn keyword(name: &str) -> Option<Kind> {
 
 /// The signs by their first character and the rest, those before others with which they begin.
 pub(crate) const SIGNS: [(char, &str, Kind); 55] = [
-    ('=', "==", Kind::Mark(Mark::Reserved)),
-    ('!', "==", Kind::Mark(Mark::Reserved)),
+    ('=', "==", Kind::Mark(Mark::Reserved(Reserved::Identical))),
+    (
+        '!',
+        "==",
+        Kind::Mark(Mark::Reserved(Reserved::NotIdentical)),
+    ),
     ('.', ".=", Kind::Operator(Operator::RangeInclusive)),
     ('*', "*=", Kind::Assign(Some(Operator::Power))),
     ('<', "<=", Kind::Assign(Some(Operator::LeftShift))),
     ('>', ">=", Kind::Assign(Some(Operator::RightShift))),
-    ('+', "+", Kind::Mark(Mark::Reserved)),
-    ('-', "-", Kind::Mark(Mark::Reserved)),
-    (':', "=", Kind::Mark(Mark::Reserved)),
+    ('+', "+", Kind::Mark(Mark::Reserved(Reserved::Increment))),
+    ('-', "-", Kind::Mark(Mark::Reserved(Reserved::Decrement))),
+    (':', "=", Kind::Mark(Mark::Reserved(Reserved::ColonEquals))),
     ('=', ">", Kind::Mark(Mark::Arrow)),
     ('=', "=", Kind::Operator(Operator::Equal)),
     ('!', "=", Kind::Operator(Operator::NotEqual)),

@@ -34,15 +34,30 @@ struct Lexer<'s> {
 /// # Errors
 /// The first part of the text that is no lexeme, or the allocator refused.
 pub fn split_into_lexemes(alloc: Global, source: &str) -> Result<Lexemes, CompileError> {
+    split_more(alloc, source, (Names::new(alloc), Names::new(alloc)), 0)
+}
+
+/// The lexemes of one of several source texts, which have their names and the texts of their string literals together: those
+/// of this text are added to the given ones. Its lines are counted on after this many others.
+///
+/// # Errors
+/// As [`split_into_lexemes`].
+pub fn split_more(
+    alloc: Global,
+    source: &str,
+    known: (Names, Names),
+    lines: u32,
+) -> Result<Lexemes, CompileError> {
+    let (names, texts) = known;
     let text = characters(alloc, source)?;
     let found = Lexemes {
         list: Vec::new(alloc),
-        names: Names::new(alloc),
-        texts: Names::new(alloc),
+        names,
+        texts,
     };
     let mut lexer = Lexer {
         alloc,
-        scan: Scan::new(&text),
+        scan: Scan::new(&text, lines),
         found,
         braces: 0,
         interpolations: Vec::new(alloc),
@@ -92,7 +107,7 @@ impl<'s> Lexer<'s> {
             Some('`') => self.first_piece(place)?,
             Some('#') => self.hashed(place)?,
             Some('}') if self.ends_interpolation() => self.next_piece(place)?,
-            Some(c) if c.is_ascii_digit() => Kind::Int(self.scan.number(place)?),
+            Some(c) if c.is_ascii_digit() => self.scan.number(self.alloc, place)?,
             Some(c) if begins_name(c) => self.name()?,
             Some(c) => self.sign(place, c)?,
             None => return Ok(()),

@@ -10,5 +10,5 @@ mod names;
 mod scan;
 
 pub use lexeme::{Kind, Lexeme, Mark, Operator};
-pub use lexer::{Lexemes, split_into_lexemes};
+pub use lexer::{Lexemes, split_into_lexemes, split_more};
 pub use names::Names;

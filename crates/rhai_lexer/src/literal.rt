@@ -1,31 +1,26 @@
 //! Literals: numbers, characters, and strings of all kinds.
 
-use crate::scan::{Scan, continues_name};
+use crate::lexeme::Kind;
+use crate::scan::{Scan, begins_name, continues_name};
+use grain_base::Float;
 use grain_base::pos::Site;
 use rhai_errors::{CompileError, Problem, Thing};
-use std::alloc::Global;
+use std::alloc::{AllocError, Global};
 
 impl<'s> Scan<'s> {
-    /// A number to the base 10, 16, 8 or 2. To the other bases than 10 it may have all 64 bits.
-    pub(crate) fn number(&mut self, place: Site) -> Result<i64, CompileError> {
+    /// A number: an integer to the base 10, 16, 8 or 2, or a floating point number to the base 10. To the other bases than
+    /// 10 an integer may have all 64 bits.
+    pub(crate) fn number(&mut self, alloc: Global, place: Site) -> Result<Kind, CompileError> {
         let radix = match (self.peek(0), self.peek(1)) {
             (Some('0'), Some('x' | 'X')) => 16,
             (Some('0'), Some('o' | 'O')) => 8,
             (Some('0'), Some('b' | 'B')) => 2,
-            _ => 10,
+            _ => return self.decimal(alloc, place),
         };
-        if radix != 10 {
-            self.skip(2);
-        }
+        self.skip(2);
         let value = self.digits(place, radix)?;
         self.check_end_of_number(place)?;
-        if radix != 10 {
-            return Ok(value.cast_signed());
-        }
-        match i64::try_from(value) {
-            Ok(value) => Ok(value),
-            Err(_) => Err(CompileError::new(place, Problem::NumberTooLarge)),
-        }
+        Ok(Kind::Int(value.cast_signed()))
     }
 
     fn digits(&mut self, place: Site, radix: u32) -> Result<u64, CompileError> {
@@ -52,18 +47,69 @@ impl<'s> Scan<'s> {
         Ok(value)
     }
 
-    /// A number isn't followed by a part of a name, nor by a fraction.
-    fn check_end_of_number(&self, place: Site) -> Result<(), CompileError> {
+    /// A number to the base 10. It is an integer unless it has a fraction or an exponent: an integer that is too large is
+    /// refused, since as a floating point number it would lose digits unseen.
+    fn decimal(&mut self, alloc: Global, place: Site) -> Result<Kind, CompileError> {
+        let mut text = String::new(alloc);
+        self.take_digits(&mut text)?;
+        let has_fraction = self.take_fraction(&mut text)?;
+        let has_exponent = self.take_exponent(&mut text)?;
+        self.check_end_of_number(place)?;
+        if has_fraction || has_exponent {
+            float(place, text.as_str())
+        } else {
+            integer(place, text.as_str())
+        }
+    }
+
+    /// Takes decimal digits. `_` between them is no part of the number.
+    fn take_digits(&mut self, text: &mut String) -> Result<(), AllocError> {
+        for _turn in 0..self.len() {
+            match self.peek(0) {
+                Some(c) if c.is_ascii_digit() => text.push(c)?,
+                Some('_') => {}
+                _ => break,
+            }
+            self.skip(1);
+        }
+        Ok(())
+    }
+
+    /// Takes a point and the digits after it, if they come next. A point after a number is part of it, unless a member's
+    /// name or another point may follow, or the text ends.
+    fn take_fraction(&mut self, text: &mut String) -> Result<bool, AllocError> {
         match (self.peek(0), self.peek(1)) {
-            (Some('.'), Some(c)) if c.is_ascii_digit() => Err(CompileError::new(
-                place,
-                Problem::Unsupported(Thing::Fraction),
-            )),
-            (Some('e' | 'E'), Some(c)) if c.is_ascii_digit() || c == '-' => Err(CompileError::new(
-                place,
-                Problem::Unsupported(Thing::Fraction),
-            )),
-            (Some(c), _) if continues_name(c) => Err(CompileError::new(place, Problem::BadNumber)),
+            (Some('.'), Some(c)) if c != '.' && !begins_name(c) => {}
+            _ => return Ok(false),
+        }
+        self.skip(1);
+        text.push('.')?;
+        self.take_digits(text)?;
+        Ok(true)
+    }
+
+    /// Takes an exponent, if it comes next: `e`, a sign or none, and digits.
+    fn take_exponent(&mut self, text: &mut String) -> Result<bool, AllocError> {
+        match (self.peek(0), self.peek(1)) {
+            (Some('e'), Some(c)) if c.is_ascii_digit() => self.skip(1),
+            (Some('e'), Some(sign)) if sign == '+' || sign == '-' => self.skip(1),
+            _ => return Ok(false),
+        }
+        text.push('e')?;
+        if let Some(sign) = self.peek(0)
+            && (sign == '+' || sign == '-')
+        {
+            text.push(sign)?;
+            self.skip(1);
+        }
+        self.take_digits(text)?;
+        Ok(true)
+    }
+
+    /// A number isn't followed by a part of a name.
+    fn check_end_of_number(&self, place: Site) -> Result<(), CompileError> {
+        match self.peek(0) {
+            Some(c) if continues_name(c) => Err(CompileError::new(place, Problem::BadNumber)),
             _ => Ok(()),
         }
     }
@@ -71,18 +117,37 @@ impl<'s> Scan<'s> {
     /// A character in single quotes.
     pub(crate) fn character(&mut self, place: Site) -> Result<char, CompileError> {
         self.skip(1);
-        let c = match self.step() {
-            Some('\\') => self.escape()?,
-            Some('\'') | Some('\n') | None => {
-                return Err(CompileError::new(place, Problem::Unfinished(Thing::Character)));
+        let c = match self.peek(0) {
+            Some('\\') => {
+                self.skip(1);
+                self.escape()?
             }
-            Some(c) => c,
+            Some('\'') | Some('\n') | None => {
+                return Err(CompileError::new(place, self.wrong_character()));
+            }
+            Some(c) => {
+                self.skip(1);
+                c
+            }
         };
-        if self.step() == Some('\'') {
+        if self.peek(0) == Some('\'') {
+            self.skip(1);
             Ok(c)
         } else {
-            Err(CompileError::new(place, Problem::Unfinished(Thing::Character)))
+            Err(CompileError::new(place, self.wrong_character()))
         }
+    }
+
+    /// What is wrong with a character literal, which may be meant as a string.
+    fn wrong_character(&self) -> Problem {
+        for ahead in 0..self.len() {
+            match self.peek(ahead) {
+                Some('\'') => return Problem::NotOneCharacter,
+                Some('\n') | None => break,
+                Some(_) => {}
+            }
+        }
+        Problem::Unfinished(Thing::Character)
     }
 
     /// A string in double quotes, which ends on its line except after a backslash.
@@ -230,6 +295,22 @@ impl<'s> Scan<'s> {
             Some(c) => Ok(c),
             None => Err(CompileError::new(place, Problem::BadEscape)),
         }
+    }
+}
+
+/// The integer with these decimal digits.
+fn integer(place: Site, digits: &str) -> Result<Kind, CompileError> {
+    match digits.parse::<i64>() {
+        Ok(value) => Ok(Kind::Int(value)),
+        Err(_) => Err(CompileError::new(place, Problem::NumberTooLarge)),
+    }
+}
+
+/// The floating point number that is nearest to what the text says. It is infinite if that is too large.
+fn float(place: Site, text: &str) -> Result<Kind, CompileError> {
+    match text.parse::<f64>() {
+        Ok(value) => Ok(Kind::Float(Float::of(value))),
+        Err(_) => Err(CompileError::new(place, Problem::BadNumber)),
     }
 }
 

@@ -23,12 +23,13 @@ pub(crate) fn continues_name(c: char) -> bool {
 }
 
 impl<'s> Scan<'s> {
-    pub(crate) fn new(text: &'s [char]) -> Scan<'s> {
-        Scan {
-            text,
-            at: 0,
-            place: Site::START,
-        }
+    /// All characters of a text, before whose first line this many others are counted.
+    pub(crate) fn new(text: &'s [char], lines: u32) -> Scan<'s> {
+        let place = Site {
+            line: lines.saturating_add(1),
+            column: 1,
+        };
+        Scan { text, at: 0, place }
     }
 
     /// How many characters the whole text has.

@@ -2,8 +2,8 @@
 
 use crate::function::Function;
 use crate::parts::{self, part};
-use crate::places::{count_of, number_of, start_of};
 use crate::sorting::{ascending, descending};
+use rhai_texts::places::{count_of, number_of, start_of};
 use rhai_values::{Cause, List, SizeLimits, Value, are_equal, place_of};
 use std::alloc::Global;
 use std::rc::Rc;

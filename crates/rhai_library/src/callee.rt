@@ -1,8 +1,8 @@
 //! What every script has by a name.
 
 use crate::function::Function;
-use crate::operators::{negate, operate};
 use grain_base::Token;
+use rhai_operators::{negate, operate};
 use rhai_values::{Cause, Value};
 use std::alloc::Global;
 
@@ -15,6 +15,8 @@ pub enum Callee {
     Print,
     /// `debug`, which the world does.
     Debug,
+    /// `exit`, which ends the script.
+    Exit,
     /// `is_def_fn`, which the script's own table answers.
     IsDefFn,
     /// `is_def_var`, which the script's own variables answer.
@@ -30,6 +32,7 @@ impl Callee {
         match name {
             "print" => Some(Callee::Print),
             "debug" => Some(Callee::Debug),
+            "exit" => Some(Callee::Exit),
             "is_def_fn" => Some(Callee::IsDefFn),
             "is_def_var" => Some(Callee::IsDefVar),
             name => match Function::named(name) {

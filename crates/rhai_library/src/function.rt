@@ -1,10 +1,14 @@
 //! Functions by their names.
 
+use rhai_math::Math;
+
 /// A function of the library. Its name is that of the variant in small letters with underscores.
 #[derive(Clone, Copy, Debug, PartialEq, Eq, Drop)]
 pub enum Function {
     Abs,
     Append,
+    AsString,
+    Blob,
     Bytes,
     Chars,
     Chop,
@@ -26,7 +30,10 @@ pub enum Function {
     IsEmpty,
     IsEven,
     IsExclusive,
+    IsFinite,
     IsInclusive,
+    IsInfinite,
+    IsNan,
     IsOdd,
     IsZero,
     Join,
@@ -34,6 +41,8 @@ pub enum Function {
     Len,
     MakeLower,
     MakeUpper,
+    /// One of floating-point numbers, under that one's name.
+    Math(Math),
     Max,
     Min,
     Mixin,
@@ -41,6 +50,7 @@ pub enum Function {
     Order,
     OrderDesc,
     Pad,
+    ParseFloat,
     ParseInt,
     ParseJson,
     Pop,
@@ -64,10 +74,13 @@ pub enum Function {
     StartsWith,
     SubString,
     Take,
+    ToArray,
     ToBinary,
+    ToBlob,
     ToChar,
     ToChars,
     ToDebug,
+    ToFloat,
     ToHex,
     ToInt,
     ToJson,
@@ -84,6 +97,8 @@ pub enum Function {
 const NAMES: &'static [(&'static str, Function)] = &[
     ("abs", Function::Abs),
     ("append", Function::Append),
+    ("as_string", Function::AsString),
+    ("blob", Function::Blob),
     ("bytes", Function::Bytes),
     ("chars", Function::Chars),
     ("chop", Function::Chop),
@@ -105,7 +120,10 @@ const NAMES: &'static [(&'static str, Function)] = &[
     ("is_empty", Function::IsEmpty),
     ("is_even", Function::IsEven),
     ("is_exclusive", Function::IsExclusive),
+    ("is_finite", Function::IsFinite),
     ("is_inclusive", Function::IsInclusive),
+    ("is_infinite", Function::IsInfinite),
+    ("is_nan", Function::IsNan),
     ("is_odd", Function::IsOdd),
     ("is_zero", Function::IsZero),
     ("join", Function::Join),
@@ -120,6 +138,7 @@ const NAMES: &'static [(&'static str, Function)] = &[
     ("order", Function::Order),
     ("order_desc", Function::OrderDesc),
     ("pad", Function::Pad),
+    ("parse_float", Function::ParseFloat),
     ("parse_int", Function::ParseInt),
     ("parse_json", Function::ParseJson),
     ("pop", Function::Pop),
@@ -143,10 +162,13 @@ const NAMES: &'static [(&'static str, Function)] = &[
     ("starts_with", Function::StartsWith),
     ("sub_string", Function::SubString),
     ("take", Function::Take),
+    ("to_array", Function::ToArray),
     ("to_binary", Function::ToBinary),
+    ("to_blob", Function::ToBlob),
     ("to_char", Function::ToChar),
     ("to_chars", Function::ToChars),
     ("to_debug", Function::ToDebug),
+    ("to_float", Function::ToFloat),
     ("to_hex", Function::ToHex),
     ("to_int", Function::ToInt),
     ("to_json", Function::ToJson),
@@ -169,29 +191,36 @@ impl Function {
                 return Some(*function);
             }
         }
-        None
+        match Math::named(name) {
+            Some(function) => Some(Function::Math(function)),
+            None => None,
+        }
     }
 
     /// Whether it may be read as a property, without brackets.
     #[must_use]
     pub fn is_property(self) -> bool {
-        matches!(
-            self,
+        match self {
+            Function::Math(function) => function.is_property(),
             Function::Abs
-                | Function::Bytes
-                | Function::Chars
-                | Function::End
-                | Function::IsAnonymous
-                | Function::IsEmpty
-                | Function::IsEven
-                | Function::IsExclusive
-                | Function::IsInclusive
-                | Function::IsOdd
-                | Function::IsZero
-                | Function::Len
-                | Function::Name
-                | Function::Sign
-                | Function::Start
-        )
+            | Function::Bytes
+            | Function::Chars
+            | Function::End
+            | Function::IsAnonymous
+            | Function::IsEmpty
+            | Function::IsEven
+            | Function::IsExclusive
+            | Function::IsFinite
+            | Function::IsInclusive
+            | Function::IsInfinite
+            | Function::IsNan
+            | Function::IsOdd
+            | Function::IsZero
+            | Function::Len
+            | Function::Name
+            | Function::Sign
+            | Function::Start => true,
+            _ => false,
+        }
     }
 }

@@ -1,8 +1,8 @@
-//! Items of values by their indices: of arrays, the characters of texts, and the bits of integers.
+//! Items of values by their indices: of arrays, the characters of texts, the bytes of blobs, and the bits of integers.
 
-use crate::bits;
 use crate::calls::call;
 use crate::function::Function;
+use crate::{bits, blobs};
 use rhai_values::{Cause, SizeLimits, Text, Value, place_of};
 use std::alloc::Global;
 
@@ -20,7 +20,7 @@ pub fn item_place(len: usize, index: Option<&Value>) -> Result<usize, Cause> {
     }
 }
 
-/// The character of a text, or the bit of an integer, at an index; or the bits of an integer that a range says.
+/// The character of a text, the byte of a blob, or the bit of an integer, at an index; or the bits of an integer that a range says.
 ///
 /// # Errors
 /// As [`item_place`], and [`Cause::WrongType`] for a value of another type.
@@ -28,6 +28,10 @@ pub fn item_of(value: &Value, index: &Value) -> Result<Value, Cause> {
     match (value, index) {
         (Value::Text(text), Value::Int(index)) => match character_at(text, *index) {
             Some(character) => Ok(Value::Char(character)),
+            None => Err(Cause::OutOfBounds(*index)),
+        },
+        (Value::Blob(bytes), Value::Int(index)) => match blobs::byte_at(bytes, *index) {
+            Some(byte) => Ok(byte),
             None => Err(Cause::OutOfBounds(*index)),
         },
         (Value::Int(number), Value::Int(index)) => bits::bit_at(*number, *index),
@@ -42,11 +46,11 @@ pub(crate) fn character_at(text: &Text, index: i64) -> Option<char> {
     text.character(place_of(text.count(), index)?)
 }
 
-/// Replaces the character of a text, or the bit of an integer, at an index; or the bits of an integer that a range says. Behind the
+/// Replaces the character of a text, the byte of a blob, or the bit of an integer, at an index; or the bits of an integer that a range says. Behind the
 /// last character it changes nothing.
 ///
 /// # Errors
-/// [`Cause::WrongType`] if the value has no such items, or what is assigned is none; [`Cause::OutOfBounds`] if no bit lies there; or
+/// [`Cause::WrongType`] if the value has no such items, or what is assigned is none; [`Cause::OutOfBounds`] if no bit or byte lies there; or
 /// out of memory.
 pub fn assign_item(
     alloc: Global,
@@ -60,6 +64,9 @@ pub fn assign_item(
     };
     if let Value::Int(number) = value {
         return bits::assign(number, index, &assigned);
+    }
+    if let Value::Blob(bytes) = value {
+        return blobs::assign(bytes, index, &assigned);
     }
     let Value::Text(_) = &*value else {
         return Err(Cause::WrongType("a value that has items"));

@@ -1,7 +1,7 @@
 //! Functions of object maps.
 
 use crate::function::Function;
-use crate::places::number_of;
+use rhai_texts::places::number_of;
 use rhai_values::{Cause, Object, Value};
 use std::alloc::Global;
 use std::rc::Rc;

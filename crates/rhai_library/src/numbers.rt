@@ -1,10 +1,11 @@
 //! Functions of integers.
 
-use crate::bits;
 use crate::function::Function;
-use crate::overflows::negation_overflow;
+use crate::{bits, floats};
+use rhai_operators::negation_overflow;
 use rhai_values::{Cause, Value};
 use std::alloc::Global;
+use std::num::nearest_i64_to_f64;
 
 pub(crate) fn call(
     alloc: Global,
@@ -18,6 +19,9 @@ pub(crate) fn call(
     match arguments {
         [] => alone(alloc, function, *number),
         [Value::Int(other)] => Ok(with_other(function, *number, *other)),
+        [Value::Float(other)] => {
+            Ok(floats::with_other(function, nearest_i64_to_f64(*number), *other))
+        }
         _ => Ok(None),
     }
 }
@@ -33,6 +37,7 @@ fn alone(alloc: Global, function: Function, number: i64) -> Result<Option<Value>
         Function::IsEven => Value::Bool(number & 1 == 0),
         Function::IsOdd => Value::Bool(number & 1 == 1),
         Function::ToInt => Value::Int(number),
+        Function::ToFloat => Value::Float(nearest_i64_to_f64(number)),
         Function::ToChar => match character_of(number) {
             Some(character) => Value::Char(character),
             None => return Err(Cause::WrongType("a Unicode scalar value")),

@@ -1,8 +1,8 @@
 //! Functions of arrays that take a part of the items, or put others in its place.
 
 use crate::function::Function;
-use crate::places::start_of;
 use crate::spans::Span;
+use rhai_texts::places::start_of;
 use rhai_values::{Cause, List, Value};
 use std::alloc::Global;
 use std::rc::Rc;

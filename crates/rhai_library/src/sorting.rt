@@ -2,6 +2,7 @@
 
 use rhai_values::{Cause, List, Value, copies};
 use std::alloc::Global;
+use std::cmp::OrderedFloat;
 use std::rc::Rc;
 
 /// An array of the items in ascending order.
@@ -16,7 +17,7 @@ pub(crate) fn descending(alloc: Global, list: &List) -> Result<Rc<List>, Cause> 
     Ok(Rc::new(alloc, List::of(items))?)
 }
 
-/// The items in ascending order: integers, characters, texts or truth values, all of one type. One item alone is in order.
+/// The items in ascending order: integers, floating-point numbers, characters, texts or truth values, all of one type. One item alone is in order.
 fn sorted(alloc: Global, items: &[Value]) -> Result<Vec<Value>, Cause> {
     if items.len() < 2 {
         return copies(alloc, items);
@@ -25,9 +26,10 @@ fn sorted(alloc: Global, items: &[Value]) -> Result<Vec<Value>, Cause> {
         None => Ok(Vec::new(alloc)),
         Some(Value::Bool(_)) => sorted_truths(alloc, items),
         Some(Value::Int(_)) => sorted_integers(alloc, items),
+        Some(Value::Float(_)) => sorted_floats(alloc, items),
         Some(Value::Char(_)) => sorted_characters(alloc, items),
         Some(Value::Text(_)) => sorted_texts(alloc, items),
-        Some(_) => Err(Cause::WrongType("integers, characters, texts or truth values to sort")),
+        Some(_) => Err(Cause::WrongType("numbers, characters, texts or truth values to sort")),
     }
 }
 
@@ -43,6 +45,23 @@ fn sorted_integers(alloc: Global, items: &[Value]) -> Result<Vec<Value>, Cause> 
     let mut values = Vec::new(alloc);
     for number in numbers {
         values.push(Value::Int(number))?;
+    }
+    Ok(values)
+}
+
+/// NaN comes behind the numbers.
+fn sorted_floats(alloc: Global, items: &[Value]) -> Result<Vec<Value>, Cause> {
+    let mut numbers = Vec::new(alloc);
+    for item in items {
+        let Value::Float(number) = item else {
+            return Err(Cause::WrongType("floating-point numbers alone to sort"));
+        };
+        numbers.push(OrderedFloat(*number))?;
+    }
+    numbers.sort()?;
+    let mut values = Vec::new(alloc);
+    for OrderedFloat(number) in numbers {
+        values.push(Value::Float(number))?;
     }
     Ok(values)
 }

@@ -1,7 +1,7 @@
 //! Parts of arrays, texts and integers, by a start and a number, or by a range.
 ghost use Rattle.std.specs.Prelude.{◌≤◌};
 
-use crate::places::{count_of, start_of};
+use rhai_texts::places::{count_of, start_of};
 use rhai_values::{Interval, Value};
 
 /// The places from one up to another.

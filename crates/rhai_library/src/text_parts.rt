@@ -1,8 +1,8 @@
 //! Functions of texts that take a part of the characters.
 
 use crate::function::Function;
-use crate::places::start_of;
 use crate::spans::Span;
+use rhai_texts::places::start_of;
 use rhai_values::{Cause, Text, Value};
 use std::alloc::Global;
 use std::rc::Rc;

@@ -2,9 +2,11 @@
 
 use crate::function::Function;
 use crate::items::character_at;
-use crate::places::{count_of, number_of};
 use crate::text_parts::{self, copied, split_at};
-use crate::{from_json, splitting, words};
+use crate::{blobs, floats};
+use rhai_json::parsed as parsed_json;
+use rhai_texts::places::{count_of, number_of};
+use rhai_texts::{splitting, words};
 use rhai_values::{Cause, SizeLimits, Text, Value, place_of};
 use std::alloc::Global;
 use std::rc::Rc;
@@ -21,7 +23,7 @@ pub(crate) fn call(
             text_parts::call(alloc, function, text, arguments)
         }
         Function::ParseJson if arguments.is_empty() => {
-            Ok(Some(from_json::parsed(alloc, limits, text.as_str())?))
+            Ok(Some(parsed_json(alloc, limits, text.as_str())?))
         }
         _ => with_arguments(alloc, limits, function, text, arguments),
     }
@@ -64,6 +66,8 @@ fn alone(alloc: Global, function: Function, text: &mut Rc<Text>) -> Result<Optio
             Ok(number) => Value::Int(number),
             Err(_) => return Err(Cause::WrongType("the digits of an integer")),
         },
+        Function::ToBlob => blobs::of_text(alloc, text.as_str())?,
+        Function::ParseFloat => floats::parsed(alloc, text.as_str())?,
         Function::Pop => match Rc::make_mut(text)?.pop() {
             Some(character) => Value::Char(character),
             None => Value::Unit,

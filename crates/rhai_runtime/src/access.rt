@@ -8,7 +8,7 @@ use grain::Program;
 use grain_machine::Reply;
 use grain_pools::{Chain, Root, Step, Tail};
 use rhai_chains::{Goal, OpError, ends_early, entry_name, keys_of, placed, read, walk};
-use rhai_library::arithmetic;
+use rhai_operators::op_assigned;
 use rhai_values::{Cause, Lent, This, Value, Variable, swapped};
 use std::mem;
 use std::rc::Rc;
@@ -396,15 +396,12 @@ pub(crate) fn variable_of(root: &Root) -> Result<Variable, Cause> {
 }
 
 /// What a part of a value becomes if a plain value is assigned to it, by way of an op-assignment if there is one. `None` if
-/// one of them isn't plain, and as [`arithmetic`].
+/// one of them isn't plain, and as [`op_assigned`].
 #[inline(always)]
 fn assigned(program: &Program, op: Option<u32>, old: &Value, value: &Value) -> Option<Value> {
     let Some(op) = op else {
         return if old.is_plain() { value.plain() } else { None };
     };
-    let (Value::Int(left), Value::Int(right)) = (old, value) else {
-        return None;
-    };
     let assign_op = program.assign_ops().get(op as usize)?;
-    Some(Value::Int(arithmetic(&assign_op.op_assign, *left, *right)?))
+    op_assigned(&assign_op.op_assign, old, value)
 }

@@ -8,7 +8,8 @@ use crate::world::World;
 use grain::Program;
 use grain_code::Receiver;
 use grain_machine::Reply;
-use rhai_library::{Callee, call, operate_at, operate_on};
+use rhai_library::{Callee, call, operate_at, without_arguments};
+use rhai_operators::operate_on;
 use rhai_values::{Cause, Lent, Pointer, This, Value, Variable, copies};
 use std::alloc::AllocError;
 
@@ -291,9 +292,10 @@ impl<W: World + Drop> Script<W> {
                     let mut receiver = receiver.clone()?;
                     call(self.alloc, self.limits, function, &mut receiver, arguments)
                 }
-                None => Ok(None),
+                None => without_arguments(self.alloc, function),
             },
             Some(Callee::Operator(index)) => operate_at(self.alloc, index, arguments),
+            Some(Callee::Exit) => exited(arguments),
             Some(Callee::IsDefFn) => Ok(self.is_def_fn(arguments)),
             Some(Callee::IsDefVar) => Ok(self.is_def_var(arguments)),
             Some(callee) => self.written(callee, arguments),
@@ -470,6 +472,18 @@ impl<W: World + Drop> Script<W> {
             self.lend(value, lent);
         }
         Ok(reply)
+    }
+}
+
+/// Ends the script with a value, or with unit. `None` of more arguments.
+///
+/// # Errors
+/// [`Cause::Exited`], or out of memory.
+fn exited(arguments: &[Value]) -> Result<Option<Value>, Cause> {
+    match arguments {
+        [] => Err(Cause::Exited(Value::Unit)),
+        [value] => Err(Cause::Exited(value.clone()?)),
+        _ => Ok(None),
     }
 }
 

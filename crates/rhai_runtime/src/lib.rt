@@ -1,5 +1,5 @@
 //! A host of `grain_machine` for scripts: calls, assignments and chains of accesses over the values and variables of
-//! `rhai_values`, with the functions and operators of `rhai_library`.
+//! `rhai_values`, with the functions of `rhai_library` and the operators of `rhai_operators`.
 //!
 //! What operations do to the stacks is the machine's, and proved there. What they mean for values docs/FORMAT.md leaves to a
 //! host: here it is as Rhai's documentation says, as far as docs/LANGUAGE.md lists it. Proved of this host is that each call is safe

@@ -11,8 +11,8 @@ use grain_base::Token;
 use grain_code::Op;
 use grain_machine::{Reply, Request};
 use rhai_chains::{Context, NameTable, OpError, assign_to};
-use rhai_library::{assign_integer, of_integers};
-use rhai_values::{Cause, SizeLimits, This, Value, Variable, Variables};
+use rhai_operators::{assign_number, of_numbers};
+use rhai_values::{Cause, Failing, SizeLimits, This, Value, Variable, Variables};
 use std::alloc::{AllocError, Global};
 use std::rc::Rc;
 
@@ -162,7 +162,7 @@ impl<W: World + Drop> Script<W> {
                 ..
             } => {
                 let operator = request.program.tokens().get(*token as usize)?;
-                of_integers(operator, operands)
+                of_numbers(operator, operands)
             }
             Op::Chain(index) => self.plain_chain(request.program, *index, operands),
             _ => None,
@@ -214,7 +214,7 @@ impl<W: World + Drop> Script<W> {
             return false;
         };
         match self.variables.value_mut(slot) {
-            Some(place) => assign_integer(&assign_op.op_assign, place, value),
+            Some(place) => assign_number(&assign_op.op_assign, place, value),
             None => false,
         }
     }
@@ -338,7 +338,7 @@ impl<W: World + Drop> Script<W> {
     pub(crate) fn no_variable(&self, program: &Program, name: u32) -> Cause {
         let name = program.names().get(name).unwrap_or("");
         match String::from_str(self.alloc, name) {
-            Ok(name) => Cause::NoVariable(name),
+            Ok(name) => Cause::Told(Failing::NoVariable, name),
             Err(_) => Cause::OutOfMemory,
         }
     }

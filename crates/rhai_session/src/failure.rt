@@ -1,9 +1,9 @@
 //! Why and where runs failed.
 ghost use Rattle.std.specs.Prelude.{◌≡◌};
-ghost use Rattle.rhai_session.specs.Kinds.{kind_of};
+ghost use Rattle.rhai_session.specs.Kinds.{kind_of, kind_of_failing};
 
 use grain::Position;
-use rhai_values::Cause;
+use rhai_values::{Cause, Failing};
 
 /// Of which kind a fault is.
 #[derive(Clone, Copy, Debug, PartialEq, Eq, Drop)]
@@ -47,24 +47,33 @@ pub struct RunFailure {
     pub position: Position,
 }
 
-/// Of which kind a cause is. A lack of memory is an event of its own.
+/// Of which kind a cause is. A lack of memory is an event of its own, and a script that ends itself doesn't fail.
 pub(crate) fn kind_of(cause: &Cause) -> Option<FaultKind>
     ensures { result ≡ kind_of cause.now }
 {
     match cause {
         Cause::Thrown(_) => Some(FaultKind::Thrown),
-        Cause::NoVariable(_) => Some(FaultKind::NoVariable),
-        Cause::NoFunction(_) => Some(FaultKind::NoFunction),
-        Cause::NoProperty(_) => Some(FaultKind::NoProperty),
+        Cause::Told(failing, _) => Some(kind_of_failing(*failing)),
         Cause::WrongType(_) => Some(FaultKind::WrongType),
-        Cause::Overflow(_) => Some(FaultKind::Overflow),
-        Cause::DivisionByZero(_) => Some(FaultKind::DivisionByZero),
         Cause::OutOfBounds(_) => Some(FaultKind::OutOfBounds),
         Cause::NoThis => Some(FaultKind::NoThis),
         Cause::TooDeep => Some(FaultKind::TooDeep),
         Cause::TooLarge => Some(FaultKind::TooLarge),
-        Cause::World(_) => Some(FaultKind::Host),
         Cause::Unsupported => Some(FaultKind::Unsupported),
-        Cause::OutOfMemory => None,
+        Cause::Exited(_) | Cause::OutOfMemory => None,
+    }
+}
+
+fn kind_of_failing(failing: Failing) -> FaultKind
+    ensures { result ≡ kind_of_failing failing }
+{
+    match failing {
+        Failing::NoVariable => FaultKind::NoVariable,
+        Failing::NoFunction => FaultKind::NoFunction,
+        Failing::NoProperty => FaultKind::NoProperty,
+        Failing::Overflow => FaultKind::Overflow,
+        Failing::DivisionByZero => FaultKind::DivisionByZero,
+        Failing::NoNumber => FaultKind::WrongType,
+        Failing::World => FaultKind::Host,
     }
 }

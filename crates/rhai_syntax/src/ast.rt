@@ -1,7 +1,9 @@
 //! The syntax tree of a source text. Names and texts are indices.
 
+use grain_base::Float;
 use grain_base::pos::Site;
 use rhai_lexer::{Names, Operator};
+use std::collections::{HashMap, HashSet};
 
 /// A name, and where it is written.
 #[derive(Clone, Copy, Debug, PartialEq, Eq, Drop)]
@@ -90,7 +92,7 @@ pub struct Catch {
 }
 
 /// A value that is written out.
-#[derive(Clone, Copy, Debug, PartialEq, Eq, Hash)]
+#[derive(Clone, Copy, PartialEq, Eq, Hash)]
 pub enum Literal {
     /// `()`
     Unit,
@@ -98,6 +100,8 @@ pub enum Literal {
     Bool(bool),
     /// An integer.
     Int(i64),
+    /// A floating point number. `0.0` and `-0.0` are different literals.
+    Float(Float),
     /// A character.
     Char(char),
     /// A string.
@@ -175,7 +179,7 @@ pub struct Arm {
 }
 
 /// A case of a switch.
-#[derive(Clone, Copy, Debug)]
+#[derive(Clone, Copy)]
 pub enum Case {
     /// `_`: all that no other case has.
     Any,
@@ -206,7 +210,50 @@ pub struct Function {
     pub uses: Vec<u32>,
 }
 
-/// A whole source text.
+/// A module that a text imports.
+#[derive(Clone, Copy, Drop)]
+pub struct Import {
+    /// Where its name is.
+    pub place: Site,
+    /// Its name, as a text.
+    pub module: u32,
+}
+
+/// A call of a function of a module.
+#[derive(Clone, Copy, Drop)]
+pub struct ModuleCall {
+    /// Where it is.
+    pub place: Site,
+    /// The name of the function in the program.
+    pub name: u32,
+    /// How many arguments there are.
+    pub argc: usize,
+}
+
+/// A constant that is read by a name with `::`.
+#[derive(Clone, Copy, Drop)]
+pub enum Constant {
+    /// A literal.
+    Literal(Literal),
+    /// What the function of this name returns, which has no parameters.
+    Computed(u32),
+}
+
+/// What the texts of a program have for each other. Names are those that things have in the program: what a module has begins
+/// with the name of the module and `::`.
+#[derive(Drop)]
+pub struct Interface {
+    /// The modules that are imported, in the order of the texts.
+    pub imports: Vec<Import>,
+    /// The constants that are read by names with `::`, except for literals of the main text.
+    pub constants: HashMap<u32, Constant>,
+    /// The functions that modules have for others, by names and numbers of parameters.
+    pub functions: HashSet<(u32, usize)>,
+    /// The calls of functions of modules.
+    pub calls: Vec<ModuleCall>,
+}
+
+/// A whole source text, maybe with modules.
 #[derive(Drop)]
 pub struct Syntax {
     /// The names.
@@ -215,6 +262,8 @@ pub struct Syntax {
     pub texts: Names,
     /// The functions. Of two that nest, the inner one comes first.
     pub functions: Vec<Function>,
-    /// The statements outside of functions.
+    /// The statements of the main text outside of functions.
     pub body: Vec<Expr>,
+    /// What the texts have for each other.
+    pub interface: Interface,
 }

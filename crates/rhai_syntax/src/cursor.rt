@@ -1,10 +1,11 @@
 //! A walk over lexemes, and what has been read so far.
 
-use crate::ast::{Binding, Expr, Form, Function};
+use crate::ast::{Binding, Expr, Form, Function, Interface, Syntax};
+use crate::links::Links;
 use grain_base::pos::Site;
 use rhai_errors::{CompileError, Problem, Thing};
 use rhai_lexer::{Kind, Lexeme, Lexemes, Mark, Names, Operator};
-use std::alloc::Global;
+use std::alloc::{AllocError, Global};
 use std::collections::HashSet;
 
 /// A walk over lexemes.
@@ -14,8 +15,14 @@ pub(crate) struct Cursor {
     lexemes: Vec<Lexeme>,
     at: usize,
     pub(crate) names: Names,
-    texts: Names,
+    pub(crate) texts: Names,
     pub(crate) functions: Vec<Function>,
+    /// What the texts so far have for each other.
+    pub(crate) interface: Interface,
+    /// What is known of this text before it is read.
+    pub(crate) links: Links,
+    /// How many expressions were read that aren't made of literals and operators alone.
+    pub(crate) computed: usize,
     /// The names of variables, in the order in which they were read.
     uses: Vec<u32>,
     /// How many `throw` without a value were read.
@@ -25,35 +32,57 @@ pub(crate) struct Cursor {
 }
 
 impl Cursor {
-    pub(crate) fn new(alloc: Global, lexemes: Lexemes) -> Cursor {
+    /// At the start of a text, with the functions of those before it.
+    pub(crate) fn new(
+        alloc: Global,
+        lexemes: Lexemes,
+        before: (Vec<Function>, Interface),
+        module: Option<String>,
+    ) -> Cursor {
         let Lexemes { list, names, texts } = lexemes;
+        let (functions, interface) = before;
         Cursor {
             alloc,
             lexemes: list,
             at: 0,
             names,
             texts,
-            functions: Vec::new(alloc),
+            functions,
+            interface,
+            links: Links::new(alloc, module),
+            computed: 0,
             uses: Vec::new(alloc),
             rethrows: 0,
             flaws: Vec::new(alloc),
         }
     }
 
-    /// What was read, statements aside.
-    pub(crate) fn end(self) -> (Names, Names, Vec<Function>) {
+    /// At the start of a text that is a whole program.
+    pub(crate) fn of_main(alloc: Global, lexemes: Lexemes) -> Cursor {
+        Cursor::new(
+            alloc,
+            lexemes,
+            (Vec::new(alloc), Interface::new(alloc)),
+            None,
+        )
+    }
+
+    /// What was read, with the statements of the main text.
+    pub(crate) fn end(self, body: Vec<Expr>) -> Syntax {
         let Cursor {
-            alloc: _,
-            lexemes: _,
-            at: _,
             names,
             texts,
             functions,
-            uses: _,
-            rethrows: _,
-            flaws: _,
+            interface,
+            ..
         } = self;
-        (names, texts, functions)
+        Syntax {
+            names,
+            texts,
+            functions,
+            body,
+            interface,
+        }
     }
 
     /// How many lexemes are left.
@@ -168,10 +197,9 @@ impl Cursor {
 
     /// Something else is expected at the next lexeme, which may be reserved.
     pub(crate) fn expected(&self, thing: Thing) -> CompileError {
-        if self.is_at(Mark::Reserved) {
-            self.fault(Problem::Reserved)
-        } else {
-            self.fault(Problem::Expected(thing))
+        match self.peek().kind {
+            Kind::Mark(Mark::Reserved(word)) => self.fault(Problem::Reserved(word)),
+            _ => self.fault(Problem::Expected(thing)),
         }
     }
 
@@ -271,7 +299,7 @@ impl Cursor {
                 let name = String::from_str(self.alloc, self.names.get(name))?;
                 self.texts.index(name)?
             }
-            _ => return Err(self.fault(Problem::Expected(Thing::PropertyName))),
+            _ => return Err(self.expected(Thing::PropertyName)),
         };
         self.go();
         Ok(text)
@@ -322,8 +350,40 @@ impl Cursor {
     }
 
     /// The expression of a form that begins at the place.
-    pub(crate) fn expr(&self, place: Site, form: Form) -> Expr {
+    pub(crate) fn expr(&mut self, place: Site, form: Form) -> Expr {
+        if !is_made_of_parts(&form) {
+            self.computed = self.computed.saturating_add(1);
+        }
         Expr { place, form }
+    }
+
+    /// Adds a function that no text declares, nor calls by its name.
+    pub(crate) fn add_hidden_function(
+        &mut self,
+        place: Site,
+        name: u32,
+        body: Vec<Expr>,
+    ) -> Result<(), AllocError> {
+        self.functions.push(Function {
+            place,
+            name,
+            params: Vec::new(self.alloc),
+            this_type: None,
+            is_private: true,
+            is_closure: false,
+            body,
+            uses: Vec::new(self.alloc),
+        })?;
+        Ok(())
+    }
+}
+
+/// Whether it is a literal, or has a value that depends on the expressions in it alone.
+fn is_made_of_parts(form: &Form) -> bool {
+    match form {
+        Form::Literal(_) | Form::Array(_) | Form::Map(_) => true,
+        Form::Prefixed(_, _) | Form::Operations(_, _) => true,
+        _ => false,
     }
 }
 

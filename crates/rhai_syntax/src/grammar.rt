@@ -9,7 +9,7 @@ use crate::ast::{Binding, Expr, Form, Function, Operation, Syntax};
 use crate::cursor::Cursor;
 use grain_base::pos::Site;
 use rhai_errors::{CompileError, Problem, Thing};
-use rhai_lexer::{Kind, Mark, Operator, split_into_lexemes};
+use rhai_lexer::{Kind, Mark, Operator, split_into_lexemes, split_more};
 use std::alloc::{AllocError, Global};
 
 /// How deep expressions may nest, which bounds the call stack.
@@ -50,15 +50,35 @@ pub(crate) fn expr(cursor: &mut Cursor, depth: usize, least: u8) -> Result<Expr,
 /// # Errors
 /// The first thing that is wrong with the text, or the allocator refused.
 pub fn parse(alloc: Global, source: &str) -> Result<Syntax, CompileError> {
-    let mut cursor = Cursor::new(alloc, split_into_lexemes(alloc, source)?);
+    let mut cursor = Cursor::of_main(alloc, split_into_lexemes(alloc, source)?);
     let body = whole_program(&mut cursor)?;
-    let (names, texts, functions) = cursor.end();
-    Ok(Syntax {
+    Ok(cursor.end(body))
+}
+
+/// The syntax tree of a program with one more text, in time linear in the length of the text: with that of a module of this
+/// name, or else with the functions of a text whose statements outside of functions are left out. Its lines are counted on after
+/// this many others, so that each place is in one text. What it imports is behind what the program imports so far.
+///
+/// # Errors
+/// The first thing that is wrong with the text, or the allocator refused.
+pub fn parse_more(
+    alloc: Global,
+    source: &str,
+    program: Syntax,
+    module: Option<String>,
+    lines: u32,
+) -> Result<Syntax, CompileError> {
+    let Syntax {
         names,
         texts,
         functions,
         body,
-    })
+        interface,
+    } = program;
+    let lexemes = split_more(alloc, source, (names, texts), lines)?;
+    let mut cursor = Cursor::new(alloc, lexemes, (functions, interface), module);
+    let _statements = whole_program(&mut cursor)?;
+    Ok(cursor.end(body))
 }
 
 /// What is wrong with the syntax of a source text, as reading finds it: nothing if [`parse`] reads the text. After an error it
@@ -90,7 +110,7 @@ fn flaws_found(alloc: Global, source: &str) -> Result<Vec<CompileError>, AllocEr
         Ok(lexemes) => lexemes,
         Err(error) => return Ok(vec![in alloc; error]?),
     };
-    let mut cursor = Cursor::new(alloc, lexemes);
+    let mut cursor = Cursor::of_main(alloc, lexemes);
     match whole_program(&mut cursor) {
         Ok(_) => Ok(Vec::new(alloc)),
         Err(error) => cursor.into_flaws(error),
@@ -99,6 +119,7 @@ fn flaws_found(alloc: Global, source: &str) -> Result<Vec<CompileError>, AllocEr
 
 /// The functions and the statements of a whole text, in which nothing is wrong.
 fn whole_program(cursor: &mut Cursor) -> Result<Vec<Expr>, CompileError> {
+    cursor.look_ahead()?;
     let body = program(cursor);
     cursor.check_flaws()?;
     body
@@ -128,10 +149,9 @@ fn part_of_program(cursor: &mut Cursor, body: &mut Vec<Expr>) -> Result<(), Comp
         depth: MAX_DEPTH,
         reads: expr,
     };
-    if cursor.is_at(Mark::Fn) || cursor.is_at(Mark::Private) {
-        return grammar.function(cursor);
+    if let Some(statement) = grammar.outermost(cursor)? {
+        body.push(statement)?;
     }
-    body.push(grammar.ended_statement(cursor)?)?;
     Ok(())
 }
 
@@ -217,8 +237,9 @@ impl<F: Fn(&mut Cursor, usize, u8) -> Result<Expr, CompileError>> Grammar<F> {
         Err(cursor.fault(Problem::Unclosed(thing, opened)))
     }
 
-    /// A function, which isn't one of the statements.
-    fn function(&self, cursor: &mut Cursor) -> Result<(), CompileError>
+    /// A function, which isn't one of the statements. That of a module is the program's own: its host sees those of the main
+    /// text alone.
+    pub(crate) fn function(&self, cursor: &mut Cursor) -> Result<(), CompileError>
         requires { (c : _) (least : _) → F.pre self.now.reads c self.now.depth least }
     {
         let place = cursor.place();
@@ -226,16 +247,20 @@ impl<F: Fn(&mut Cursor, usize, u8) -> Result<Expr, CompileError>> Grammar<F> {
         cursor.expect(Mark::Fn, Thing::Fn)?;
         let this_type = this_type(cursor)?;
         let name = cursor.function_name()?;
+        let name = cursor.name_in_program(name)?;
         let opened = cursor.place();
         cursor.expect(Mark::LeftParen, Thing::LeftParen)?;
         let params = params(cursor, opened)?;
         let body = self.block(cursor)?;
+        if cursor.is_module() && !is_private && this_type.is_none() {
+            let _ = cursor.interface.functions.insert((name, params.len()))?;
+        }
         let function = Function {
             place,
             name,
             params,
             this_type,
-            is_private,
+            is_private: is_private || cursor.is_module(),
             is_closure: false,
             body,
             uses: Vec::new(cursor.alloc),

@@ -7,13 +7,15 @@
 mod ast;
 mod cursor;
 mod grammar;
+mod links;
 mod operand;
+mod outermost;
 mod recovery;
 mod statement;
 
 pub use ast::{
-    Access, Arm, Binding, Branch, Case, Catch, Entry, Expr, Form, Function, Literal, Operation,
-    Part, Syntax,
+    Access, Arm, Binding, Branch, Case, Catch, Constant, Entry, Expr, Form, Function, Import,
+    Interface, Literal, ModuleCall, Operation, Part, Syntax,
 };
-pub use grammar::{MAX_DEPTH, flaws, parse};
+pub use grammar::{MAX_DEPTH, flaws, parse, parse_more};
 pub use recovery::MAX_FLAWS;

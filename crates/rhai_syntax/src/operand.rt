@@ -3,6 +3,7 @@
 use crate::ast::{Access, Binding, Entry, Expr, Form, Function, Literal, Part};
 use crate::cursor::Cursor;
 use crate::grammar::{ALONE, Grammar, add_param};
+use grain_base::Float;
 use grain_base::pos::Site;
 use rhai_errors::{CompileError, Problem, Thing};
 use rhai_lexer::{Kind, Mark, Operator};
@@ -166,6 +167,7 @@ impl<F: Fn(&mut Cursor, usize, u8) -> Result<Expr, CompileError>> Grammar<F> {
     {
         match cursor.peek().kind {
             Kind::Int(value) => literal(cursor, place, Literal::Int(value)),
+            Kind::Float(value) => literal(cursor, place, Literal::Float(value)),
             Kind::Char(value) => literal(cursor, place, Literal::Char(value)),
             Kind::Text(text) => literal(cursor, place, Literal::Text(text)),
             Kind::FirstPiece(text) => self.interpolated(cursor, place, text),
@@ -182,15 +184,31 @@ impl<F: Fn(&mut Cursor, usize, u8) -> Result<Expr, CompileError>> Grammar<F> {
         let opened = cursor.place();
         if cursor.eat(Mark::LeftParen) {
             let arguments = self.list(cursor, Mark::RightParen, Thing::RightParen, opened)?;
-            return Ok(cursor.expr(place, Form::Call(name, arguments)));
+            let form = match cursor.pointed_to(name, &arguments) {
+                Some(linked) => Form::Name(linked),
+                None => Form::Call(cursor.called(name, arguments.len()), arguments),
+            };
+            return Ok(cursor.expr(place, form));
         }
         if cursor.eat(Mark::DoubleColon) {
-            let inner = cursor.name(Thing::Name)?;
-            return Ok(cursor.expr(place, Form::Qualified(name, inner)));
+            return self.qualified(cursor, place, name);
         }
         cursor.check_scope_call()?;
         cursor.uses(name)?;
         Ok(cursor.expr(place, Form::Name(name)))
+    }
+
+    /// A function or a constant of a module, behind the name of the module and `::`.
+    fn qualified(&self, cursor: &mut Cursor, place: Site, space: u32) -> Result<Expr, CompileError>
+        requires { (c : _) (least : _) → F.pre self.now.reads c self.now.depth least }
+    {
+        let name = cursor.name(Thing::Name)?;
+        let opened = cursor.place();
+        if cursor.eat(Mark::LeftParen) {
+            let arguments = self.list(cursor, Mark::RightParen, Thing::RightParen, opened)?;
+            return cursor.module_call(place, space, name, arguments);
+        }
+        cursor.module_constant(place, space, name)
     }
 
     /// A string with interpolations, at its first piece.
@@ -297,7 +315,7 @@ impl<F: Fn(&mut Cursor, usize, u8) -> Result<Expr, CompileError>> Grammar<F> {
         let opened = cursor.place();
         if cursor.eat(Mark::LeftParen) {
             let arguments = self.list(cursor, Mark::RightParen, Thing::RightParen, opened)?;
-            return Ok(Part::Method(name, arguments));
+            return Ok(Part::Method(cursor.called(name, arguments.len()), arguments));
         }
         Ok(Part::Property(name))
     }
@@ -319,26 +337,37 @@ fn literal(cursor: &mut Cursor, place: Site, literal: Literal) -> Result<Expr, C
     Ok(cursor.expr(place, Form::Literal(literal)))
 }
 
-/// An operator before its operand. The negative of an integer literal is a literal.
+/// An operator before its operand. The negative of a number that is written out is a literal.
 fn prefixed(
-    cursor: &Cursor,
+    cursor: &mut Cursor,
     place: Site,
     operator: Operator,
     operand: Expr,
 ) -> Result<Expr, CompileError> {
-    if let Some(value) = negative(operator, &operand.form) {
-        return Ok(cursor.expr(place, Form::Literal(Literal::Int(value))));
+    if let Some(literal) = negative(operator, &operand.form) {
+        return Ok(cursor.expr(place, Form::Literal(literal)));
     }
     let operand = cursor.boxed(operand)?;
     Ok(cursor.expr(place, Form::Prefixed(operator, operand)))
 }
 
-/// The integer that a minus before an integer makes.
-fn negative(operator: Operator, operand: &Form) -> Option<i64> {
+/// The number that a minus before a number makes.
+fn negative(operator: Operator, operand: &Form) -> Option<Literal> {
     match (operator, operand) {
-        (Operator::Minus, Form::Literal(Literal::Int(value))) => value.checked_neg(),
+        (Operator::Minus, Form::Literal(Literal::Int(value))) => match value.checked_neg() {
+            Some(value) => Some(Literal::Int(value)),
+            None => None,
+        },
+        (Operator::Minus, Form::Literal(Literal::Float(value))) => {
+            Some(Literal::Float(negated(*value)))
+        }
         _ => None,
     }
+}
+
+/// The negative of a number. That of zero has another sign, and so other bits.
+pub(crate) fn negated(value: Float) -> Float {
+    Float::of(-value.number())
 }
 
 /// The parameters of a closure, up to the `|` after them.

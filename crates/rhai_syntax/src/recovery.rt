@@ -97,7 +97,9 @@ impl Cursor {
                 | Mark::Private
                 | Mark::If
                 | Mark::For
-                | Mark::Return,
+                | Mark::Return
+                | Mark::Import
+                | Mark::Export,
             ) => true,
             Kind::Mark(
                 Mark::Loop | Mark::Do | Mark::Switch | Mark::Try | Mark::Throw | Mark::End,
@@ -109,7 +111,7 @@ impl Cursor {
 }
 
 /// How many braces are open behind a lexeme.
-fn depth_behind(depth: usize, lexeme: Lexeme) -> usize {
+pub(crate) fn depth_behind(depth: usize, lexeme: Lexeme) -> usize {
     match lexeme.kind {
         Kind::Mark(Mark::LeftBrace | Mark::MapBrace) | Kind::FirstPiece(_) => {
             depth.saturating_add(1)

@@ -3,6 +3,7 @@
 use crate::ast::{Access, Arm, Binding, Branch, Case, Catch, Expr, Form, Literal, Part};
 use crate::cursor::Cursor;
 use crate::grammar::{Grammar, STATEMENT};
+use crate::operand::negated;
 use grain_base::pos::Site;
 use rhai_errors::{CompileError, Problem, Thing};
 use rhai_lexer::{Kind, Mark, Operator};
@@ -64,8 +65,8 @@ impl<F: Fn(&mut Cursor, usize, u8) -> Result<Expr, CompileError>> Grammar<F> {
             Kind::Mark(Mark::Fn | Mark::Private) => Err(cursor.fault(Problem::Expected(
                 Thing::Statement,
             ))),
-            Kind::Mark(Mark::Import) => Err(cursor.fault(Problem::Unsupported(Thing::Import))),
-            Kind::Mark(Mark::Export) => Err(cursor.fault(Problem::Unsupported(Thing::Export))),
+            Kind::Mark(Mark::Import) => Err(cursor.fault(Problem::NotAtTop(Thing::Import))),
+            Kind::Mark(Mark::Export) => Err(cursor.fault(Problem::NotAtTop(Thing::Export))),
             Kind::Mark(mark) if begins_block(mark) => self.expr(cursor, STATEMENT),
             Kind::Mark(mark) if leaves(mark) => self.leaving(cursor, place, mark),
             _ => self.assignment(cursor, place),
@@ -154,7 +155,7 @@ impl<F: Fn(&mut Cursor, usize, u8) -> Result<Expr, CompileError>> Grammar<F> {
             Mark::Try => self.tried(cursor, place),
             Mark::While | Mark::Loop | Mark::Do => self.repeated(cursor, place, mark),
             Mark::For => self.walk(cursor, place),
-            Mark::Reserved => Err(CompileError::new(place, Problem::Reserved)),
+            Mark::Reserved(word) => Err(CompileError::new(place, Problem::Reserved(word))),
             _ => Err(CompileError::new(place, Problem::Expected(Thing::Expression))),
         }
     }
@@ -379,6 +380,8 @@ fn case_literal(cursor: &mut Cursor) -> Result<Literal, CompileError> {
     let literal = match (cursor.peek().kind, is_negative) {
         (Kind::Int(value), true) => Literal::Int(value.checked_neg().unwrap_or(i64::MIN)),
         (Kind::Int(value), false) => Literal::Int(value),
+        (Kind::Float(value), true) => Literal::Float(negated(value)),
+        (Kind::Float(value), false) => Literal::Float(value),
         (Kind::Char(value), false) => Literal::Char(value),
         (Kind::Text(text), false) => Literal::Text(text),
         (Kind::Mark(Mark::True), false) => Literal::Bool(true),

@@ -1,6 +1,6 @@
 //! Faults as scripts catch them.
 
-use crate::cause::Cause;
+use crate::cause::{Cause, Failing};
 use crate::value::{Object, Value};
 use grain_base::Position;
 use std::alloc::{AllocError, Global};
@@ -37,19 +37,26 @@ impl Cause {
     /// The name of the variant of Rhai's `EvalAltResult`.
     fn error_name(&self) -> &'static str {
         match self {
-            Cause::NoVariable(_) => "ErrorVariableNotFound",
-            Cause::NoFunction(_) => "ErrorFunctionNotFound",
-            Cause::NoProperty(_) => "ErrorPropertyNotFound",
+            Cause::Told(failing, _) => name_of(*failing),
             Cause::WrongType(_) => "ErrorMismatchDataType",
-            Cause::Overflow(_) | Cause::DivisionByZero(_) => "ErrorArithmetic",
             Cause::OutOfBounds(_) => "ErrorArrayBounds",
             Cause::NoThis => "ErrorUnboundThis",
             Cause::TooDeep => "ErrorStackOverflow",
             Cause::TooLarge => "ErrorDataTooLarge",
-            Cause::Thrown(_) | Cause::OutOfMemory | Cause::World(_) | Cause::Unsupported => {
+            Cause::Thrown(_) | Cause::Exited(_) | Cause::OutOfMemory | Cause::Unsupported => {
                 "ErrorRuntime"
             }
         }
+    }
+}
+
+fn name_of(failing: Failing) -> &'static str {
+    match failing {
+        Failing::NoVariable => "ErrorVariableNotFound",
+        Failing::NoFunction => "ErrorFunctionNotFound",
+        Failing::NoProperty => "ErrorPropertyNotFound",
+        Failing::Overflow | Failing::DivisionByZero | Failing::NoNumber => "ErrorArithmetic",
+        Failing::World => "ErrorRuntime",
     }
 }
 

@@ -4,23 +4,37 @@ use crate::value::Value;
 use std::alloc::{AllocError, AllocFailed, Global};
 use std::fmt;
 
-/// Why an operation of a script fails.
+/// What a text of a [`Cause`] is about.
+#[derive(Clone, Copy, Debug, PartialEq, Eq, Drop)]
+pub enum Failing {
+    /// No variable has the name that the text is, or lies in the slot.
+    NoVariable,
+    /// No function has this name and takes such arguments: the text has the name, with the types of the arguments.
+    NoFunction,
+    /// A value has no property of this name.
+    NoProperty,
+    /// A result doesn't fit 64 bits: the text has the operation.
+    Overflow,
+    /// A divisor is zero: the text has the operation.
+    DivisionByZero,
+    /// A text isn't the number that it has to be: the text says why.
+    NoNumber,
+    /// The world outside the script failed: the text says how.
+    World,
+}
+
+/// Why an operation of a script fails. One case alone has a text, since each case that owns memory adds to the proof of every
+/// function that may drop a cause.
 #[derive(Drop)]
 pub enum Cause {
     /// The script threw this value.
     Thrown(Value),
-    /// No variable has this name, or lies in the slot.
-    NoVariable(String),
-    /// No function has this name and takes such arguments: the name, with the types of the arguments.
-    NoFunction(String),
-    /// A value has no property of this name.
-    NoProperty(String),
+    /// The script ends itself, and this is its value. It is no fault.
+    Exited(Value),
+    /// A text says what failed.
+    Told(Failing, String),
     /// A value is of another type than this.
     WrongType(&'static str),
-    /// A result doesn't fit 64 bits: the text has the operation.
-    Overflow(String),
-    /// A divisor is zero: the text has the operation.
-    DivisionByZero(String),
     /// No item lies at this index.
     OutOfBounds(i64),
     /// `this` is used in a function that wasn't called on a value.
@@ -31,10 +45,20 @@ pub enum Cause {
     TooLarge,
     /// Out of memory.
     OutOfMemory,
-    /// The world outside the script failed: the text says how.
-    World(String),
     /// The host doesn't do this operation.
     Unsupported,
+}
+
+impl Failing {
+    /// How the sentence begins that ends with the text.
+    fn beginning(self) -> &'static str {
+        match self {
+            Failing::NoVariable => "Variable not found: ",
+            Failing::NoFunction => "Function not found: ",
+            Failing::NoProperty => "Property not found: ",
+            Failing::Overflow | Failing::DivisionByZero | Failing::NoNumber | Failing::World => "",
+        }
+    }
 }
 
 impl Cause {
@@ -42,7 +66,11 @@ impl Cause {
     #[must_use]
     pub fn is_catchable(&self) -> bool {
         match self {
-            Cause::TooDeep | Cause::TooLarge | Cause::OutOfMemory | Cause::World(_) => false,
+            Cause::TooDeep
+            | Cause::TooLarge
+            | Cause::OutOfMemory
+            | Cause::Exited(_)
+            | Cause::Told(Failing::World, _) => false,
             _ => true,
         }
     }
@@ -57,7 +85,7 @@ impl Cause {
         arguments: &[Value],
     ) -> Cause {
         match signature(alloc, name, receiver, arguments) {
-            Ok(text) => Cause::NoFunction(text),
+            Ok(text) => Cause::Told(Failing::NoFunction, text),
             Err(_) => Cause::OutOfMemory,
         }
     }
@@ -104,17 +132,17 @@ impl fmt::Display for Cause {
     fn fmt<W: fmt::Write>(&self, f: &mut fmt::Formatter<W>) -> fmt::Result {
         match self {
             Cause::Thrown(value) => write!(f, "Runtime error: {value}"),
-            Cause::NoVariable(name) => write!(f, "Variable not found: {name}"),
-            Cause::NoFunction(name) => write!(f, "Function not found: {name}"),
-            Cause::NoProperty(name) => write!(f, "Property not found: {name}"),
+            Cause::Exited(_) => f.write_str("Script exited"),
+            Cause::Told(failing, text) => {
+                f.write_str(failing.beginning())?;
+                f.write_str(text.as_str())
+            }
             Cause::WrongType(wanted) => write!(f, "Data type incorrect: expecting {wanted}"),
-            Cause::Overflow(text) | Cause::DivisionByZero(text) => f.write_str(text.as_str()),
             Cause::OutOfBounds(index) => write!(f, "Index out of bounds: {index}"),
             Cause::NoThis => f.write_str("'this' not bound"),
             Cause::TooDeep => f.write_str("Stack overflow"),
             Cause::TooLarge => f.write_str("Size of data too large"),
             Cause::OutOfMemory => f.write_str("Out of memory"),
-            Cause::World(text) => f.write_str(text.as_str()),
             Cause::Unsupported => f.write_str("Unsupported operation"),
         }
     }

@@ -4,9 +4,11 @@ use crate::text::Text;
 use crate::value::Value;
 use std::cmp::Ordering;
 use std::collections::BTreeMap;
+use std::num::nearest_i64_to_f64;
 
-/// Whether two values are of one type and have the same content. A character counts as a text of that character. It takes time by
-/// the size of the smaller one.
+/// Whether two values are of one type and have the same content. A character counts as a text of that character, and an integer
+/// next to a floating-point number as the nearest one of those. NaN is equal to nothing. It takes time by the size of the smaller
+/// one.
 #[cycle(equal)]
 #[must_use]
 pub fn are_equal(left: &Value, right: &Value) -> bool {
@@ -14,6 +16,10 @@ pub fn are_equal(left: &Value, right: &Value) -> bool {
         (Value::Unit, Value::Unit) => true,
         (Value::Bool(x), Value::Bool(y)) => x == y,
         (Value::Int(x), Value::Int(y)) => x == y,
+        (Value::Float(_), _) | (_, Value::Float(_)) => match as_floats(left, right) {
+            Some((x, y)) => x == y,
+            None => false,
+        },
         (Value::Char(x), Value::Char(y)) => x == y,
         (Value::Text(x), Value::Text(y)) => x.as_str() == y.as_str(),
         (Value::Text(text), Value::Char(character)) | (Value::Char(character), Value::Text(text)) =>
@@ -57,13 +63,30 @@ fn are_entries_equal(left: &BTreeMap<String, Value>, right: &BTreeMap<String, Va
     true
 }
 
-/// How two values of one type compare, if that type has an order: truth values, integers, characters and texts. A character counts
-/// as a text of that character.
+/// The floating-point numbers that two numbers are, if one of them is such a number: an integer is the nearest one. `None` of
+/// other values, and of two integers.
+#[inline(always)]
+#[must_use]
+pub fn as_floats(left: &Value, right: &Value) -> Option<(f64, f64)> {
+    match (left, right) {
+        (Value::Float(x), Value::Float(y)) => Some((*x, *y)),
+        (Value::Float(x), Value::Int(y)) => Some((*x, nearest_i64_to_f64(*y))),
+        (Value::Int(x), Value::Float(y)) => Some((nearest_i64_to_f64(*x), *y)),
+        _ => None,
+    }
+}
+
+/// How two values of one type compare, if that type has an order: truth values, numbers, characters and texts. A character counts
+/// as a text of that character, an integer as in [`are_equal`], and NaN has no order.
 #[must_use]
 pub fn order(left: &Value, right: &Value) -> Option<Ordering> {
     match (left, right) {
         (Value::Bool(x), Value::Bool(y)) => Some(x.cmp(y)),
         (Value::Int(x), Value::Int(y)) => Some(x.cmp(y)),
+        (Value::Float(_), _) | (_, Value::Float(_)) => {
+            let (x, y) = as_floats(left, right)?;
+            x.partial_cmp(&y)
+        }
         (Value::Char(x), Value::Char(y)) => Some(x.cmp(y)),
         (Value::Text(x), Value::Text(y)) => Some(x.as_str().cmp(y.as_str())),
         (Value::Text(text), Value::Char(character)) => Some(order_of_character(text, *character)),

@@ -2,7 +2,7 @@
 
 use crate::cause::Cause;
 use crate::value::{Object, Pointer, Value};
-use grain_base::{Dynamic, FnPtr, HostValue};
+use grain_base::{Dynamic, Float, FnPtr, HostValue};
 use std::alloc::{AllocError, Global};
 use std::collections::BTreeMap;
 use std::rc::Rc;
@@ -17,6 +17,7 @@ pub fn value_of(alloc: Global, constant: &Dynamic) -> Result<Value, Cause> {
         Dynamic::Unit => Ok(Value::Unit),
         Dynamic::Bool(x) => Ok(Value::Bool(*x)),
         Dynamic::Int(x) => Ok(Value::Int(*x)),
+        Dynamic::Float(x) => Ok(Value::Float(x.number())),
         Dynamic::Char(x) => Ok(Value::Char(*x)),
         Dynamic::Str(text) => Ok(Value::text(alloc, text.clone()?)?),
         Dynamic::Range(from, to) => Ok(Value::range(alloc, *from, *to, false)?),
@@ -63,6 +64,7 @@ pub fn constant_of(alloc: Global, value: &Value) -> Result<Dynamic, AllocError> 
         Value::Unit | Value::Shared(_) => Ok(Dynamic::Unit),
         Value::Bool(x) => Ok(Dynamic::Bool(*x)),
         Value::Int(x) => Ok(Dynamic::Int(*x)),
+        Value::Float(x) => Ok(Dynamic::Float(Float::of(*x))),
         Value::Char(x) => Ok(Dynamic::Char(*x)),
         Value::Text(text) => Ok(Dynamic::Str(String::from_str(alloc, text.as_str())?)),
         Value::Range(range) => Ok(if range.inclusive {

@@ -2,7 +2,7 @@
 //!
 //! Values are small to copy, and shared until they are changed.
 //!
-//! Integers, characters and truth values lie in the value itself. Texts, arrays and maps are counted and shared: a copy costs
+//! Numbers, characters and truth values lie in the value itself. Texts, arrays and maps are counted and shared: a copy costs
 //! one count, and the first change to a shared one copies one level of it.
 //!
 //! Each array and map knows how much is in it and how deep, so a limit on both costs no walk. Each text knows how many characters
@@ -31,8 +31,8 @@ mod value;
 mod variables;
 mod walk;
 
-pub use cause::Cause;
-pub use compare::{are_equal, order};
+pub use cause::{Cause, Failing};
+pub use compare::{are_equal, as_floats, order};
 pub use constant::{constant_of, value_of};
 pub use frames::{Call, Lent, This, Variable};
 pub use interval::Interval;

@@ -18,6 +18,18 @@ pub fn copies(alloc: Global, values: &[Value]) -> Result<Vec<Value>, Cause> {
 }
 
 impl Value {
+    /// The bytes of a blob as integers, in order.
+    ///
+    /// # Errors
+    /// Out of memory.
+    pub fn bytes(alloc: Global, bytes: &[u8]) -> Result<Vec<Value>, Cause> {
+        let mut values = Vec::new(alloc);
+        for byte in bytes {
+            values.push(Value::Int(i64::from(*byte)))?;
+        }
+        Ok(values)
+    }
+
     /// An array of the values in these places.
     ///
     /// # Errors

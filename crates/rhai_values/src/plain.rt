@@ -1,4 +1,4 @@
-//! Plain values: integers, truth values, characters and unit, which have no counter and meet no limit.
+//! Plain values: numbers, truth values, characters and unit, which have no counter and meet no limit.
 
 use crate::value::Value;
 
@@ -9,7 +9,7 @@ impl Value {
     pub fn is_plain(&self) -> bool {
         matches!(
             self,
-            Value::Int(_) | Value::Bool(_) | Value::Char(_) | Value::Unit
+            Value::Int(_) | Value::Float(_) | Value::Bool(_) | Value::Char(_) | Value::Unit
         )
     }
 
@@ -19,6 +19,7 @@ impl Value {
     pub fn plain(&self) -> Option<Value> {
         match self {
             Value::Int(number) => Some(Value::Int(*number)),
+            Value::Float(number) => Some(Value::Float(*number)),
             Value::Bool(truth) => Some(Value::Bool(*truth)),
             Value::Char(character) => Some(Value::Char(*character)),
             Value::Unit => Some(Value::Unit),
@@ -26,13 +27,20 @@ impl Value {
         }
     }
 
-    /// Puts an integer in place of an integer, or a truth value in place of one. `false` of other values: then nothing has
-    /// changed.
+    /// Puts an integer, a floating-point number or a truth value in place of another one of its type. `false` of other values:
+    /// then nothing has changed.
     #[inline(always)]
     pub fn replace_plain(&mut self, value: &Value) -> bool {
         match value {
             Value::Int(number) => match self {
                 Value::Int(old) => {
+                    *old = *number;
+                    true
+                }
+                _ => false,
+            },
+            Value::Float(number) => match self {
+                Value::Float(old) => {
                     *old = *number;
                     true
                 }

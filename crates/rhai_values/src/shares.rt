@@ -5,7 +5,8 @@ use crate::value::Value;
 use std::alloc::{AllocError, Global};
 use std::rc::Rc;
 
-/// How large what was added may be, whatever else there is, before unused variables are looked for.
+/// How large what was added may be, whatever else there is, before unused variables are looked for. A variable counts as at
+/// most this, so that one look at all of them follows each large value at most, and not many.
 const ADDED_AT_LEAST: usize = 4096;
 
 /// A variable that is shared.
@@ -62,7 +63,8 @@ impl Shares {
     /// # Errors
     /// Out of memory: then the value is lost.
     pub(crate) fn add(&mut self, value: Value) -> Result<Rc<usize>, Cause> {
-        self.added = self.added.saturating_add(value.measure().size);
+        let size = value.measure().size.min(ADDED_AT_LEAST);
+        self.added = self.added.saturating_add(size);
         let most = self
             .list
             .len()

@@ -1,7 +1,11 @@
 //! Values as text.
 
 use crate::value::Value;
+use grain_base::write_number;
 use std::fmt;
+
+/// How many bytes of a blob are shown without a blank between them.
+const GROUP: usize = 8;
 
 /// As `print` shows it: a text and a character as they are, unit as nothing, and all else as [`Debug`](fmt::Debug).
 impl fmt::Display for Value {
@@ -22,6 +26,7 @@ impl fmt::Debug for Value {
             Value::Unit => f.write_str("()"),
             Value::Bool(x) => write!(f, "{x}"),
             Value::Int(x) => write!(f, "{x}"),
+            Value::Float(x) => write_number(*x, f),
             Value::Char(x) => write!(f, "{x:?}"),
             Value::Text(text) => {
                 let text = text.as_str();
@@ -75,9 +80,16 @@ impl fmt::Debug for Value {
 
 fn show_bytes<W: fmt::Write>(bytes: &[u8], f: &mut fmt::Formatter<W>) -> fmt::Result {
     f.write_str("[")?;
-    for byte in bytes {
-        let byte = *byte;
-        write!(f, "{byte:02x}")?;
+    let mut is_first = true;
+    for group in bytes.chunks(GROUP) {
+        if !is_first {
+            f.write_str(" ")?;
+        }
+        is_first = false;
+        for byte in group {
+            let byte = *byte;
+            write!(f, "{byte:02x}")?;
+        }
     }
     f.write_str("]")
 }

@@ -21,6 +21,8 @@ pub enum Value {
     Bool(bool),
     /// An integer.
     Int(i64),
+    /// A floating-point number.
+    Float(f64),
     /// A character.
     Char(char),
     /// A text.
@@ -108,6 +110,7 @@ impl Value {
             Value::Unit
             | Value::Bool(_)
             | Value::Int(_)
+            | Value::Float(_)
             | Value::Char(_)
             | Value::Range(_)
             | Value::Foreign(_)
@@ -122,6 +125,7 @@ impl Value {
             Value::Unit => "()",
             Value::Bool(_) => "bool",
             Value::Int(_) => "i64",
+            Value::Float(_) => "f64",
             Value::Char(_) => "char",
             Value::Text(_) => "string",
             Value::Range(range) => { if range.inclusive { "range=" } else { "range" } }

@@ -42,7 +42,7 @@ impl Numbers {
     }
 }
 
-/// A walk over the items of a value: of an array, of a range, or the characters of a text.
+/// A walk over the items of a value: of an array, of a range, the characters of a text, or the bytes of a blob.
 #[derive(Drop)]
 pub struct Walk {
     source: Source,
@@ -51,7 +51,7 @@ pub struct Walk {
 }
 
 impl Walk {
-    /// Begins to go over a value. What changes in it later isn't seen. Of a text it takes memory by its characters.
+    /// Begins to go over a value. What changes in it later isn't seen. Of a text it takes memory by its characters, of a blob by its bytes.
     ///
     /// # Errors
     /// [`Cause::WrongType`] for a value that has no items, or out of memory.
@@ -72,6 +72,11 @@ impl Walk {
                 let mut characters = Value::characters(alloc, text.as_str())?;
                 characters.reverse();
                 Source::Values(characters)
+            }
+            Value::Blob(bytes) => {
+                let mut bytes = Value::bytes(alloc, bytes.as_slice())?;
+                bytes.reverse();
+                Source::Values(bytes)
             }
             _ => return Err(Cause::WrongType("a value to iterate over")),
         };

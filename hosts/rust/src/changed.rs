@@ -132,7 +132,7 @@ impl ProgramFile {
     /// use grain::{Limits, ProgramFile};
     ///
     /// // `Unit` and `Return`, which declare 5 operands and need one.
-    /// let bytes = b"\0grn\x01\0\0\0\0\x02\x02\x13\0\x02\x05\0\0\0\0\0\0\0\0\0";
+    /// let bytes = b"\0grn\x02\0\0\0\0\x02\x02\x13\0\x02\x05\0\0\0\0\0\0\0\0\0";
     /// let tightened = ProgramFile::tighten(bytes, &Limits::default())?;
     /// let file = ProgramFile::read(&tightened, &Limits::default())?;
     /// assert_eq!(file.chunks()[0].max_stack, 1);
@@ -152,11 +152,11 @@ impl ProgramFile {
     /// use grain::{Limits, ProgramFile};
     ///
     /// // `Unit` at 1:5 and `Return` at none.
-    /// let bytes = b"\0grn\x01\0\0\x07\0\x02\x02\x13\0\x02\x01\0\0\0\0\0\0\0\0\x01\x02\x01\x01\x05\0";
+    /// let bytes = b"\0grn\x02\0\0\x07\0\x02\x02\x13\0\x02\x01\0\0\0\0\0\0\0\0\x01\x02\x01\x01\x05\0";
     /// let stripped = ProgramFile::strip(bytes, &Limits::default())?;
     /// let file = ProgramFile::read(&stripped.program, &Limits::default())?;
     /// assert_eq!(file.table(), None);
-    /// assert_eq!(stripped.sidecar, b"\0grn\x01\x01\x07\0\x04\x01\0\x01\x05\x01\0");
+    /// assert_eq!(stripped.sidecar, b"\0grn\x02\x01\x07\0\x04\x01\0\x01\x05\x01\0");
     /// # Ok::<(), Box<dyn std::error::Error>>(())
     /// ```
     ///

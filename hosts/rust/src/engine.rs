@@ -26,6 +26,7 @@
 //!
 //! What is proved of the library's core: only accepted programs run, each run keeps to its instructions and operand stack, and a call
 //! makes at most the turns that it is given. This module is plain Rust around it, tested and not proved.
+mod equality;
 mod error;
 mod fault;
 mod functions;

@@ -29,7 +29,7 @@ use std::str;
 /// use grain::{Caps, FileError, Limits, ProgramFile, Value};
 ///
 /// // `Unit`, `Return`, and the constant 42.
-/// let bytes = b"\0grn\x01\0\0\0\0\x02\x02\x13\0\x02\x01\0\0\x01\x03\x54\0\0\0\0\0\0";
+/// let bytes = b"\0grn\x02\0\0\0\0\x02\x02\x13\0\x02\x01\0\0\x01\x03\x54\0\0\0\0\0\0";
 /// let file = ProgramFile::read(bytes, &Limits::default())?;
 /// assert_eq!(file.code(), [0x02, 0x13]);
 /// assert_eq!(file.constants().next(), Some(Value::Integer(42)));
@@ -448,7 +448,7 @@ impl ProgramFile {
     /// use grain::{Caps, Instruction, ProgramFile, Value};
     ///
     /// // `LoadConst(0)`, `Return`, and the constant 42.
-    /// let bytes = b"\0grn\x01\0\0\0\0\x04\x01\0\0\x13\0\x04\x01\0\0\x01\x03\x54\0\0\0\0\0\0";
+    /// let bytes = b"\0grn\x02\0\0\0\0\x04\x01\0\0\x13\0\x04\x01\0\0\x01\x03\x54\0\0\0\0\0\0";
     /// let verified = ProgramFile::try_from(&bytes[..])?.into_verified(Caps::NONE)?;
     /// let (first, next) = Instruction::decode(verified.code(), 0).unwrap();
     /// assert_eq!((first, next), (Instruction::LoadConst { constant: 0 }, 3));

@@ -24,7 +24,7 @@ pub struct FileFunction<'a> {
 /// ```
 /// use grain::{Root, Step, Tail};
 ///
-/// # let bytes = b"\0grn\x01\0\0\0\0\x04\x16\0\0\x13\0\x04\x01\0\x01\x01x\0\0\0\x01\x03\x01\x01\0\0\0\x01\0\0\0\0\0\0";
+/// # let bytes = b"\0grn\x02\0\0\0\0\x04\x16\0\0\x13\0\x04\x01\0\x01\x01x\0\0\0\x01\x03\x01\x01\0\0\0\x01\0\0\0\0\0\0";
 /// let file = grain::ProgramFile::try_from(&bytes[..])?;
 /// let chain = file.chains().next().unwrap();
 /// assert_eq!((chain.root(), chain.tail(), chain.operands()), (Root::Temporary, Tail::Read, 0));

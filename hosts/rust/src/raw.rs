@@ -50,6 +50,7 @@ pub(crate) const VALUE_MAP: u32 = 10;
 pub(crate) const VALUE_FN_PTR: u32 = 11;
 pub(crate) const VALUE_SHARED: u32 = 12;
 pub(crate) const VALUE_OPERATOR: u32 = 14;
+pub(crate) const VALUE_FLOAT: u32 = 15;
 
 pub(crate) const INTERFACE: u32 = 3;
 pub(crate) const WHOLE_PROGRAM: u64 = u64::MAX;
@@ -137,6 +138,11 @@ pub(crate) struct Value {
     pub(crate) tag: u32,
     pub(crate) count: u32,
     pub(crate) number: i64,
+}
+
+/// The number of a row that has a float: its bits.
+pub(crate) fn float_of(row: &Value) -> f64 {
+    f64::from_bits(row.number as u64)
 }
 
 #[repr(C)]

@@ -30,6 +30,8 @@ pub enum Value<'a> {
     FnPtr(&'a str, Values<'a>),
     /// A value that several variables hold.
     Shared(Values<'a>),
+    /// A floating-point number.
+    Float(f64),
 }
 
 /// An operator of a program file.
@@ -129,6 +131,7 @@ impl<'a> Values<'a> {
                 Value::FnPtr(name, bound)
             }
             raw::VALUE_SHARED => Value::Shared(self.inside(1)),
+            raw::VALUE_FLOAT => Value::Float(raw::float_of(row)),
             _ => Value::Unit,
         })
     }
@@ -159,7 +162,7 @@ impl ExactSizeIterator for Values<'_> {}
 /// use grain::{ProgramFile, Value};
 ///
 /// // The constant `#{a: 1}`.
-/// let bytes = b"\0grn\x01\0\0\0\0\x02\x02\x13\0\x02\x01\0\0\x01\x0a\x01\x01a\x03\x02\0\0\0\0\0\0";
+/// let bytes = b"\0grn\x02\0\0\0\0\x02\x02\x13\0\x02\x01\0\0\x01\x0a\x01\x01a\x03\x02\0\0\0\0\0\0";
 /// let file = ProgramFile::try_from(&bytes[..])?;
 /// let Some(Value::Map(entries)) = file.constant(0) else { panic!() };
 /// assert_eq!(entries.collect::<Vec<_>>(), [("a", Value::Integer(1))]);

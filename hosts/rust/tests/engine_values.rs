@@ -1,6 +1,6 @@
 //! Values of scripts and of Rust.
 use grain::engine::{Engine, Foreign, FromValue, IntoArguments, RunError, State, Value, WrongType};
-use std::collections::{BTreeMap, HashMap};
+use std::collections::{BTreeMap, HashMap, HashSet};
 use std::fmt::Debug;
 
 /// A state whose script has a function that returns its argument.
@@ -17,6 +17,7 @@ fn values_cross_both_ways() {
         Value::Unit,
         true.into(),
         (-3).into(),
+        2.5.into(),
         'é'.into(),
         "text".into(),
         Value::Range {
@@ -112,6 +113,13 @@ fn values_of_rust_return() {
     returns(state, -7i32, Value::Int(-7));
     returns(state, 7u16, Value::Int(7));
     returns(state, u32::MAX, Value::Int(i64::from(u32::MAX)));
+    returns(state, 0.1, Value::Float(0.1));
+    returns(
+        state,
+        f64::MIN_POSITIVE / 2.0,
+        Value::Float(f64::MIN_POSITIVE / 2.0),
+    );
+    returns(state, f64::NEG_INFINITY, Value::Float(f64::NEG_INFINITY));
     returns(state, 'é', Value::Char('é'));
     returns(state, "é".to_string(), Value::Text("é".into()));
     returns(state, Some(3i64), Value::Int(3));
@@ -143,6 +151,65 @@ fn values_of_rust_return() {
     assert_eq!(Value::from(&"a".to_string()), Value::from("a"));
 }
 
+/// The bits of a number cross, its sign among them; of NaN there is one.
+#[test]
+fn floats_keep_their_bits() {
+    let state = &mut same();
+    for number in [
+        0.0,
+        -0.0,
+        1.5,
+        -1.5,
+        f64::MAX,
+        f64::from_bits(1),
+        f64::INFINITY,
+    ] {
+        let found: f64 = state.call("same", (number,)).unwrap();
+        assert_eq!(found.to_bits(), number.to_bits());
+    }
+    let quiet = 0x7ff8 << 48;
+    for bits in [quiet, quiet | 1 << 63, quiet | 7, (0x7ff0 << 48) | 1] {
+        let found: f64 = state.call("same", (f64::from_bits(bits),)).unwrap();
+        assert_eq!(found.to_bits(), quiet);
+    }
+}
+
+/// Values can be keys: NaN is equal to itself, and equal values have equal hashes.
+#[test]
+fn floats_are_equal_as_numbers() {
+    let float = |number: f64| Value::from(number);
+    assert_eq!(float(0.0), float(-0.0));
+    assert_eq!(float(f64::NAN), float(-f64::NAN));
+    assert_ne!(float(f64::NAN), float(0.0));
+    assert_ne!(float(1.0), Value::from(1));
+    assert_eq!(
+        Value::from(vec![0.0, f64::NAN]),
+        vec![-0.0, f64::NAN].into()
+    );
+    let keys: HashSet<Value> = [0.0, -0.0, f64::NAN, -f64::NAN, 1.0].map(float).into();
+    assert_eq!(keys.len(), 3);
+    let all: HashSet<Value> = [1.into(), 1.0.into(), "1".into(), '1'.into(), true.into()].into();
+    assert!(all.contains(&float(1.0)) && all.contains(&Value::from(1)) && all.len() == 5);
+}
+
+/// Functions of the host take floats and return them. An integer is no float.
+#[test]
+fn functions_have_floats() {
+    let mut engine = Engine::new();
+    engine.register("half", |x: f64| x / 2.0);
+    engine.register("root", |x: f64| x.sqrt());
+    engine.register("whole", |x: f64| x as i64);
+    assert_eq!(engine.eval::<f64>("half(3.0) + 1").unwrap(), 2.5);
+    assert_eq!(engine.eval::<i64>("whole(half(-7.5))").unwrap(), -3);
+    assert!(engine.eval::<f64>("root(-1.0)").unwrap().is_nan());
+    assert!(engine.eval::<f64>("half(-0.0)").unwrap().is_sign_negative());
+    assert!(engine.eval::<f64>("half(3)").is_err());
+    assert_eq!(
+        engine.eval::<Vec<f64>>("[0.5, half(1e300)]").unwrap(),
+        [0.5, 5e299]
+    );
+}
+
 fn wrong<T>(wanted: &'static str, found: &'static str) -> Result<T, WrongType> {
     Err(WrongType { wanted, found })
 }
@@ -155,6 +222,8 @@ fn other_types_are_refused() {
     assert_eq!(usize::try_from(Value::Int(-1)), wrong("usize", "i64"));
     assert_eq!(u64::try_from(Value::Int(5)), Ok(5));
     assert_eq!(i8::try_from(Value::Int(128)), wrong("i8", "i64"));
+    assert_eq!(f64::try_from(Value::Int(1)), wrong("f64", "i64"));
+    assert_eq!(i64::try_from(Value::Float(1.0)), wrong("i64", "f64"));
     assert_eq!(String::try_from(Value::Char('a')), wrong("string", "char"));
     assert_eq!(<()>::try_from(Value::Bool(true)), wrong("()", "bool"));
     let mixed = Value::from(vec![Value::Int(1), Value::Unit]);
@@ -195,6 +264,17 @@ fn types_and_texts_are_those_of_scripts() {
         ().into(),
         true.into(),
         (-3).into(),
+        0.1.into(),
+        (-3.0).into(),
+        (-0.0).into(),
+        1e13.into(),
+        2e13.into(),
+        1e-7.into(),
+        9e-8.into(),
+        f64::NAN.into(),
+        f64::INFINITY.into(),
+        f64::NEG_INFINITY.into(),
+        vec![1.0, f64::MAX].into(),
         'c'.into(),
         "it's \"so\"\n".into(),
         (1..4).into(),

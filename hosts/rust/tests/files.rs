@@ -76,7 +76,7 @@ fn all_is_read() {
 /// Functions of no parameter: `f` for receivers of the type `g`, `g`, `f` by its second name and by its first, and one of a name that
 /// isn't there; and `f` of one parameter.
 const FUNCTIONS: &str = "
-    0067726e 01 00 01 0000 020213 000201
+    0067726e 02 00 01 0000 020213 000201
     06 01000001 02000201 02000000 000201 01000000 000201 00000000 000201 07000000 000201 0001020000 000201
     04 0166 0166 0167 0168 00000000000000
 ";
@@ -104,7 +104,7 @@ fn callees_are_found() {
 fn constants_are_read() {
     let file = ProgramFile::try_from(&sample()[..]).unwrap();
     let all: Vec<_> = file.constants().collect();
-    assert_eq!(all.len(), 13);
+    assert_eq!(all.len(), 14);
     assert_eq!(
         all[..4],
         [
@@ -147,10 +147,39 @@ fn constants_are_read() {
         panic!()
     };
     assert_eq!(inner.next(), Some(Value::Integer(5)));
+    assert_eq!(all[13], Value::Float(2.5));
     for (index, value) in all.iter().enumerate() {
         assert_eq!(file.constant(index as u32).as_ref(), Some(value));
     }
-    assert_eq!(file.constant(13), None);
+    assert_eq!(file.constant(14), None);
+}
+
+/// The constants 1.5, -0.0, NaN with all bits set, and an array of 0.1 and 7.
+const FLOATS: &str = "
+    0067726e 02 00 00 0000 020213 000201 00 00
+    04 0d80808080808080fc3f 0d80808080808080808001 0dffffffffffffffffff01 0802 0d9ab3e6cc99b3e6dc3f 030e
+    000000000000
+";
+
+#[test]
+fn floats_are_read() {
+    let all = bytes(&FLOATS.replace(char::is_whitespace, ""));
+    let file = ProgramFile::try_from(&all[..]).unwrap();
+    let bits = |index| match file.constant(index) {
+        Some(Value::Float(number)) => number.to_bits(),
+        other => panic!("{other:?}"),
+    };
+    assert_eq!(bits(0), 1.5f64.to_bits());
+    assert_eq!(bits(1), (-0.0f64).to_bits());
+    assert_eq!(bits(2), u64::MAX);
+    let Some(Value::Array(items)) = file.constant(3) else {
+        panic!()
+    };
+    assert_eq!(
+        items.collect::<Vec<_>>(),
+        [Value::Float(0.1), Value::Integer(7)]
+    );
+    assert_eq!(file.constants().len(), 4);
 }
 
 #[test]
@@ -410,7 +439,7 @@ fn files_are_stripped() {
     assert_eq!(bare.verify(Caps::ALL), file.verify(Caps::ALL));
     let (table, stream) = (file.table().unwrap(), file.stream());
     let parts: [&[u8]; 5] = [
-        b"\0grn\x01\x01\x07\x09",
+        b"\0grn\x02\x01\x07\x09",
         &[table.len() as u8],
         table,
         &[stream.len() as u8],
@@ -418,7 +447,7 @@ fn files_are_stripped() {
     ];
     assert_eq!(stripped.sidecar, parts.concat());
     // A position in the middle of `LoadConst`.
-    let inside = b"\0grn\x01\0\0\x07\0\x04\x01\0\0\x13\0\x04\x01\0\0\x01\x03\x2a\0\0\0\0\0\x01\x04\0\x01\x01\x01\0\0";
+    let inside = b"\0grn\x02\0\0\x07\0\x04\x01\0\0\x13\0\x04\x01\0\0\x01\x03\x2a\0\0\0\0\0\x01\x04\0\x01\x01\x01\0\0";
     assert!(ProgramFile::read(inside, &limits).is_ok());
     assert_eq!(
         ProgramFile::strip(inside, &limits),

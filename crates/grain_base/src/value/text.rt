@@ -34,6 +34,7 @@ fn write_value<W: fmt::Write>(value: &Dynamic, f: &mut fmt::Formatter<W>) -> fmt
             let type_name = &value.type_name;
             write!(f, "<{type_name}>")
         }
+        Dynamic::Float(x) => write!(f, "{x}"),
     }
 }
 

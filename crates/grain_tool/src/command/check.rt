@@ -1,11 +1,13 @@
 //! `grain check`: whether scripts can be compiled.
 
-use crate::scripts::compiled;
+use crate::scripts::{compiled, text_of};
+use crate::unknown::{Warning, unknown_calls};
 use clap::ArgMatches;
 use grain::pos::Site;
 use grain_cli::arguments::{Argument, Subcommand};
+use grain_cli::excerpt::push_message;
 use grain_cli::failure::Failure;
-use grain_cli::files::read_bytes;
+use grain_cli::files::{read_bytes, shown};
 use grain_cli::json_lines::{line_of, writer};
 use grain_cli::output::write_standard;
 use json::Writer;
@@ -14,7 +16,7 @@ use std::alloc::{AllocError, Global};
 /// `grain check`
 pub const SUBCOMMAND: Subcommand = Subcommand {
     name: "check",
-    about: "Says whether scripts can be compiled, and why not",
+    about: "Says whether scripts can be compiled, why not, and which functions are unknown",
     example: "Example:\n  grain check *.rhai",
     arguments: &[
         Argument::Words {
@@ -67,60 +69,129 @@ fn write_errors(alloc: Global, json: &mut Writer, failure: &Failure) -> Result<(
     }
 }
 
-/// Appends the script, and its errors.
+/// Appends what is probably wrong in a script.
+fn write_warnings(json: &mut Writer, warnings: &[Warning]) -> Result<(), AllocError> {
+    for warning in warnings {
+        write_error(json, warning.place, warning.message.as_str())?;
+    }
+    Ok(())
+}
+
+/// What was found in a script.
+#[derive(Clone, Copy)]
+struct Findings<'a> {
+    /// Why it can't be read or compiled.
+    failure: Option<&'a Failure>,
+    /// What is probably wrong, if it can be compiled.
+    warnings: &'a [Warning],
+}
+
+/// Appends the script, its errors and its warnings.
 fn write_object(
     alloc: Global,
     json: &mut Writer,
     path: &str,
-    found: Option<&Failure>,
+    found: Findings<'_>,
 ) -> Result<(), AllocError> {
     json.begin_object()?;
     json.key("file")?;
     json.string(path)?;
     json.key("errors")?;
     json.begin_array()?;
-    if let Some(failure) = found {
+    if let Some(failure) = found.failure {
         write_errors(alloc, json, failure)?;
     }
+    json.end_array()?;
+    json.key("warnings")?;
+    json.begin_array()?;
+    write_warnings(json, found.warnings)?;
     json.end_array()?;
     json.end_object()
 }
 
-/// A line of JSON: the script, and its errors.
-fn object_of(alloc: Global, path: &str, found: Option<&Failure>) -> Result<Vec<u8>, AllocError> {
+/// A line of JSON: the script, its errors and its warnings.
+fn object_of(alloc: Global, path: &str, found: Findings<'_>) -> Result<Vec<u8>, AllocError> {
     let mut json = writer(alloc);
     write_object(alloc, &mut json, path, found)?;
     line_of(json)
 }
 
+/// A script that can be compiled.
+#[derive(Drop)]
+struct Checked {
+    script: String,
+    warnings: Vec<Warning>,
+}
+
 /// Reads and compiles a script.
-fn check(rt: &HostRuntime, path: &str) -> Result<(), Failure> {
-    let bytes = read_bytes(rt, path)?;
-    let _verified = compiled(rt.alloc(), path, bytes)?;
+fn check(rt: &HostRuntime, path: &str) -> Result<Checked, Failure> {
+    let script = text_of(rt.alloc(), path, read_bytes(rt, path)?)?;
+    let verified = compiled(rt, path, script.as_str())?;
+    let warnings = unknown_calls(rt.alloc(), verified.program())?;
+    Ok(Checked { script, warnings })
+}
+
+/// What is probably wrong in a script, each with its line and a caret.
+fn report_of(alloc: Global, path: &str, checked: &Checked) -> Result<String, AllocError> {
+    let mut text = String::new(alloc);
+    for warning in &checked.warnings {
+        let sentence = warning.message.as_str();
+        let message = format!(in alloc; "warning: {sentence}")?;
+        push_message(
+            shown(path),
+            checked.script.as_str(),
+            warning.place,
+            message.as_str(),
+            &mut text,
+        )?;
+    }
+    Ok(text)
+}
+
+/// Says what is probably wrong in a script.
+fn show(rt: &HostRuntime, is_json: bool, path: &str, checked: &Checked) -> Result<(), Failure> {
+    if is_json {
+        let found = Findings {
+            failure: None,
+            warnings: checked.warnings.as_slice(),
+        };
+        return write_standard(rt, &object_of(rt.alloc(), path, found)?);
+    }
+    let report = report_of(rt.alloc(), path, checked)?;
+    // Warnings change no status: if standard error can't be written, nothing is lost but them.
+    let _said = eprint!(rt; "{report}");
     Ok(())
 }
 
-/// Why a script can't be read or compiled.
-fn flaw_of(rt: &HostRuntime, path: &str) -> Result<Option<Failure>, Failure> {
-    match check(rt, path) {
-        Ok(()) => Ok(None),
-        Err(Failure::OutOfMemory) => Err(Failure::OutOfMemory),
-        Err(failure) => Ok(Some(failure)),
-    }
-}
-
-/// Compiles a script, says why it can't be, and returns whether it can.
-fn visit(rt: &HostRuntime, is_json: bool, path: &str) -> Result<bool, Failure> {
-    let flaw = flaw_of(rt, path)?;
+/// Says why a script can't be read or compiled.
+fn refuse(rt: &HostRuntime, is_json: bool, path: &str, failure: &Failure) -> Result<(), Failure> {
     if is_json {
-        write_standard(rt, &object_of(rt.alloc(), path, flaw.as_ref())?)?;
-    } else if let Some(failure) = &flaw {
-        failure.say(rt);
+        let found = Findings {
+            failure: Some(failure),
+            warnings: &[],
+        };
+        return write_standard(rt, &object_of(rt.alloc(), path, found)?);
     }
-    Ok(flaw.is_none())
+    failure.say(rt);
+    Ok(())
 }
 
-/// Compiles each script, and writes nothing else. The status is 1 if one can't be compiled.
+/// Compiles a script, says what is wrong with it, and returns whether it can be compiled.
+fn visit(rt: &HostRuntime, is_json: bool, path: &str) -> Result<bool, Failure> {
+    match check(rt, path) {
+        Ok(checked) => {
+            show(rt, is_json, path, &checked)?;
+            Ok(true)
+        }
+        Err(Failure::OutOfMemory) => Err(Failure::OutOfMemory),
+        Err(failure) => {
+            refuse(rt, is_json, path, &failure)?;
+            Ok(false)
+        }
+    }
+}
+
+/// Compiles each script, and says what is wrong. The status is 1 if one can't be compiled.
 pub fn run(rt: &HostRuntime, matches: &ArgMatches<'_>) -> Result<u8, Failure> {
     let is_json = matches.get_flag("json");
     let mut status = 0u8;

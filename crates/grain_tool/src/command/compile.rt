@@ -1,6 +1,6 @@
 //! `grain compile`: the program file of a script.
 
-use crate::scripts::compiled;
+use crate::scripts::{compiled, text_of};
 use clap::ArgMatches;
 use grain::Program;
 use grain_cli::arguments::{Argument, FILE, Subcommand};
@@ -58,7 +58,8 @@ fn strip(alloc: Global, path: &str, program: &mut Program) -> Result<Vec<u8>, Fa
 
 /// The program of a script, with the name of the script if the arguments say so and it has one.
 fn program_of(rt: &HostRuntime, path: &str, with_source: bool) -> Result<Program, Failure> {
-    let mut program = compiled(rt.alloc(), path, read_bytes(rt, path)?)?.into_program();
+    let script = text_of(rt.alloc(), path, read_bytes(rt, path)?)?;
+    let mut program = compiled(rt, path, script.as_str())?.into_program();
     if with_source && path != STANDARD {
         let name = String::from_str(rt.alloc(), path)?;
         let _named = program.set_source(name);

@@ -50,6 +50,7 @@ impl Rows {
             Value::Bool(false) => self.push(raw::VALUE_FALSE, 0, 0),
             Value::Bool(true) => self.push(raw::VALUE_TRUE, 0, 0),
             Value::Int(number) => self.push(raw::VALUE_INTEGER, 0, *number),
+            Value::Float(number) => self.push(raw::VALUE_FLOAT, 0, number.to_bits() as i64),
             Value::Char(character) => {
                 self.push(raw::VALUE_CHARACTER, 0, i64::from(u32::from(*character)));
             }
@@ -152,6 +153,7 @@ impl<'a> Reader<'a> {
             raw::VALUE_FALSE => Value::Bool(false),
             raw::VALUE_TRUE => Value::Bool(true),
             raw::VALUE_INTEGER => Value::Int(row.number),
+            raw::VALUE_FLOAT => Value::Float(raw::float_of(row)),
             raw::VALUE_CHARACTER => {
                 let number = u32::try_from(row.number).unwrap_or_default();
                 Value::Char(char::from_u32(number).unwrap_or_default())

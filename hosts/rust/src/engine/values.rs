@@ -7,8 +7,8 @@ use std::ops::{Range, RangeInclusive};
 
 /// A value of a script, as the host has it: its own copy.
 ///
-/// Values of Rust become such values by [`From`], and such values become values of Rust by [`FromValue`] or [`TryFrom`]. Integers have
-/// 64 bits, `None` is [`Value::Unit`], and a `Vec<u8>` is a blob. [`Display`](fmt::Display) writes what a script prints of a value.
+/// Values of Rust become such values by [`From`], and such values become values of Rust by [`FromValue`] or [`TryFrom`]. Integers
+/// and floats have 64 bits, `None` is [`Value::Unit`], and a `Vec<u8>` is a blob. [`Display`](fmt::Display) writes what a script prints of a value.
 ///
 /// ```
 /// use grain::engine::Value;
@@ -17,7 +17,7 @@ use std::ops::{Range, RangeInclusive};
 /// assert_eq!(value.to_string(), "[1, ()]");
 /// assert_eq!(Vec::<Option<i64>>::try_from(value), Ok(vec![Some(1), None]));
 /// ```
-#[derive(Clone, Debug, Default, PartialEq, Eq, Hash)]
+#[derive(Clone, Debug, Default)]
 #[non_exhaustive]
 pub enum Value {
     /// No value.
@@ -27,6 +27,8 @@ pub enum Value {
     Bool(bool),
     /// An integer.
     Int(i64),
+    /// A floating-point number. NaN is equal to itself, so that values can be keys; all others are compared as numbers.
+    Float(f64),
     /// A character.
     Char(char),
     /// A text.
@@ -89,6 +91,7 @@ impl Value {
             Value::Unit => "()",
             Value::Bool(_) => "bool",
             Value::Int(_) => "i64",
+            Value::Float(_) => "f64",
             Value::Char(_) => "char",
             Value::Text(_) => "string",
             Value::Range { inclusive, .. } => ["range", "range="][usize::from(*inclusive)],
@@ -119,6 +122,7 @@ fn write_part(value: &Value, f: &mut fmt::Formatter<'_>) -> fmt::Result {
         Value::Unit => f.write_str("()"),
         Value::Bool(value) => write!(f, "{value}"),
         Value::Int(number) => write!(f, "{number}"),
+        Value::Float(number) => write_float(*number, f),
         Value::Char(character) => write!(f, "{character:?}"),
         Value::Text(text) => write!(f, "{text:?}"),
         Value::Range {
@@ -138,6 +142,23 @@ fn write_part(value: &Value, f: &mut fmt::Formatter<'_>) -> fmt::Result {
         }),
         Value::Function { name, .. } => write!(f, "Fn({name})"),
         Value::Foreign(Foreign { kind, number }) => write!(f, "foreign({kind}, {number})"),
+    }
+}
+
+/// Writes a float with the fewest digits that only it has, as a script does: a whole one ends with `.0`, very large and very small
+/// ones have an exponent, and neither zero nor NaN has a sign.
+fn write_float(number: f64, f: &mut fmt::Formatter<'_>) -> fmt::Result {
+    let size = number.abs();
+    if number.is_nan() {
+        f.write_str("NaN")
+    } else if size == 0.0 {
+        f.write_str("0.0")
+    } else if !(1e-7..=1e13).contains(&size) {
+        write!(f, "{number:e}")
+    } else if size.fract() == 0.0 {
+        write!(f, "{number}.0")
+    } else {
+        write!(f, "{number}")
     }
 }
 
@@ -202,6 +223,7 @@ macro_rules! converts {
 converts! {
     bool, "bool", Bool;
     i64, "i64", Int;
+    f64, "f64", Float;
     char, "char", Char;
     String, "string", Text;
     Vec<u8>, "blob", Blob;
@@ -412,6 +434,7 @@ tries! {
     [] u32;
     [] u64;
     [] usize;
+    [] f64;
     [] char;
     [] String;
     [] Range<i64>;

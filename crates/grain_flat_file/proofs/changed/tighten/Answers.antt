@@ -1,5 +1,8 @@
 use Rattle.std.proofs.Common.{◌≡◌, ◌≤◌, ℕ, false, true, sym, subst}
+use Rattle.grain.specs.Program.{input_of}
 use Rattle.grain_file.specs.ProgramFile.{kept}
+use Rattle.grain_file.proofs.KeptAccepted.{accepted_alike}
+use Rattle.grain_rules.specs.Accepted.{IsAccepted}
 use Rattle.grain_flat_file.specs.Changed.{program_work}
 use Rattle.grain_flat_file.proofs.RefusedFiles.{refused_cause}
 use Rattle.grain_flat_file.proofs.SpannedWork.{accepted_visits, refused_visits, same_span}
@@ -13,6 +16,12 @@ returns-then-not-branch-clause-only c p is accepted spans =
     let yes : c.in_ok-spans_within.field-0 ≡ true = c.in_ok-spans_within.ensures.1 few in
     let no : c.in_ok-spans_within.field-0 ≡ false = c.if-not-branch.true in
     cc
+
+pub returns-in-Err-tighten_located-clause-only : goal.returns-in-Err-tighten_located-clause-only
+returns-in-Err-tighten_located-clause-only c p is accepted spans =
+    let same : kept c.in-Ok.program ≡ kept p = c.in-Ok.ensures.only (kept p) is in
+    let here : IsAccepted (input_of c.in-Ok.program) = accepted_alike p c.in-Ok.program (sym same) accepted in
+    c.stop_of.ensures.memory (c.in-Err-tighten_located.ensures.accepts here)
 
 pub returns-in-Err-tighten_located-clause-causes : goal.returns-in-Err-tighten_located-clause-causes
 returns-in-Err-tighten_located-clause-causes c =

@@ -9,8 +9,8 @@ use Rattle.grain_format.proofs.MapEnd.{inserted}
 use Rattle.grain_format.proofs.Tags.{unknown_tag}
 use Rattle.grain_format.proofs.values.+value.Goals as goal
 
-pub read_value-returns-then-tag-gt12 : goal.read_value-returns-then-tag-gt12
-read_value-returns-then-tag-gt12 t c = unknown_tag _ _ _ _ _ c.in-Some-split_first.ensures.cases.0 c.in-Some.ensures c.if-tag-gt12.true
+pub read_value-returns-then-tag-gt13 : goal.read_value-returns-then-tag-gt13
+read_value-returns-then-tag-gt13 t c = unknown_tag _ _ _ _ _ c.in-Some-split_first.ensures.cases.0 c.in-Some.ensures c.if-tag-gt13.true
 
 pub read_values-returns-in_err-value : goal.read_values-returns-in_err-value
 read_values-returns-in_err-value t c =

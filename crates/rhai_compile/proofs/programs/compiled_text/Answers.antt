@@ -3,8 +3,5 @@ use Rattle.rhai_compile.specs.Positions.{ArePositions, IsListedPosition, IsPosit
 use Rattle.rhai_compile.proofs.PlacedPositions.{all_lie_in}
 use Rattle.rhai_compile.proofs.programs.compiled_text.Goals as goal
 
-pub returns-then-is_empty-clause-positions : goal.returns-then-is_empty-clause-positions
-returns-then-is_empty-clause-positions c = IfOk-weaker c.compile_syntax.result (λ b. ArePositions (IsListedPosition c.in_ok-lines.lines.lengths.items) b.program) (λ b. ArePositions (IsPositionOf c.args.source.now) b.program) (λ b. all_lie_in c.args.source.now c.in_ok-lines.lines.lengths.items c.in_ok-lines.ensures b.program) c.compile_syntax.ensures.positions
-
 pub returns-clause-positions : goal.returns-clause-positions
-returns-clause-positions c = IfOk-weaker c.compile_syntax-2.result (λ b. ArePositions (IsListedPosition c.in_ok-lines.lines.lengths.items) b.program) (λ b. ArePositions (IsPositionOf c.args.source.now) b.program) (λ b. all_lie_in c.args.source.now c.in_ok-lines.lines.lengths.items c.in_ok-lines.ensures b.program) c.compile_syntax-2.ensures.positions
+returns-clause-positions c = IfOk-weaker c.compile_syntax.result (λ b. ArePositions (IsListedPosition c.in_ok-lines.lines.lengths.items) b.program) (λ b. ArePositions (IsPositionOf c.args.source.now) b.program) (λ b. all_lie_in c.args.source.now c.in_ok-lines.lines.lengths.items c.in_ok-lines.ensures b.program) c.compile_syntax.ensures.positions

@@ -4,7 +4,10 @@ use rhai_values::{Cause, Value};
 use std::alloc::Global;
 
 /// The words that blanks separate.
-pub(crate) fn split_at_blanks(alloc: Global, text: &str) -> Result<Value, Cause> {
+///
+/// # Errors
+/// Out of memory.
+pub fn split_at_blanks(alloc: Global, text: &str) -> Result<Value, Cause> {
     let mut parts = Vec::new(alloc);
     for part in text.split_whitespace() {
         push(alloc, &mut parts, part)?;
@@ -13,7 +16,10 @@ pub(crate) fn split_at_blanks(alloc: Global, text: &str) -> Result<Value, Cause>
 }
 
 /// The parts between the places where the separator is found. The empty one is found at both ends and between all characters.
-pub(crate) fn split(alloc: Global, text: &str, separator: &str) -> Result<Value, Cause> {
+///
+/// # Errors
+/// Out of memory.
+pub fn split(alloc: Global, text: &str, separator: &str) -> Result<Value, Cause> {
     let mut parts = Vec::new(alloc);
     for part in text.split(separator) {
         push(alloc, &mut parts, part)?;
@@ -22,7 +28,10 @@ pub(crate) fn split(alloc: Global, text: &str, separator: &str) -> Result<Value,
 }
 
 /// As [`split`], the last part first.
-pub(crate) fn split_rev(alloc: Global, text: &str, separator: &str) -> Result<Value, Cause> {
+///
+/// # Errors
+/// Out of memory.
+pub fn split_rev(alloc: Global, text: &str, separator: &str) -> Result<Value, Cause> {
     let mut parts = Vec::new(alloc);
     for part in text.rsplit(separator) {
         push(alloc, &mut parts, part)?;
@@ -31,7 +40,10 @@ pub(crate) fn split_rev(alloc: Global, text: &str, separator: &str) -> Result<Va
 }
 
 /// As [`split`], with at most this many parts: the last one is all that is left.
-pub(crate) fn split_into(
+///
+/// # Errors
+/// Out of memory.
+pub fn split_into(
     alloc: Global,
     text: &str,
     separator: &str,
@@ -45,7 +57,10 @@ pub(crate) fn split_into(
 }
 
 /// As [`split_rev`], with at most this many parts: the last one is all that is left.
-pub(crate) fn split_rev_into(
+///
+/// # Errors
+/// Out of memory.
+pub fn split_rev_into(
     alloc: Global,
     text: &str,
     separator: &str,

@@ -1,8 +1,9 @@
 //! Operators by their tokens.
 
+use crate::floats::of_floats;
 use crate::overflows::{negation_overflow, overflow};
-use crate::words;
 use grain_base::Token;
+use rhai_texts::words;
 use rhai_values::{Cause, Text, Value, are_equal, order};
 use std::alloc::Global;
 use std::cmp::Ordering;
@@ -12,7 +13,7 @@ use std::rc::Rc;
 /// be used up: a text or an array is extended in place where nobody else holds it.
 ///
 /// # Errors
-/// [`Cause::Overflow`], [`Cause::DivisionByZero`], or out of memory.
+/// [`Failing::Overflow`](rhai_values::Failing), [`Failing::DivisionByZero`](rhai_values::Failing), or out of memory.
 #[inline]
 pub fn operate(
     alloc: Global,
@@ -26,11 +27,27 @@ pub fn operate(
             Some(value) => Ok(Some(Value::Bool(value))),
             None => Ok(compared(operator, left, right)),
         },
-        _ => match operator {
-            Token::Plus | Token::PlusAssign => extended(alloc, operator, left, right),
-            Token::Minus | Token::MinusAssign => reduced(alloc, left, right),
-            _ => Ok(compared(operator, left, right)),
-        },
+        (Value::Float(_), _) | (_, Value::Float(_)) => {
+            if let Some(value) = of_floats(operator, left, right) {
+                return Ok(Some(value));
+            }
+            operate_on_others(alloc, operator, left, right)
+        }
+        _ => operate_on_others(alloc, operator, left, right),
+    }
+}
+
+/// As [`operate`], of operands that aren't both numbers or truth values.
+fn operate_on_others(
+    alloc: Global,
+    operator: &Token,
+    left: &mut Value,
+    right: &Value,
+) -> Result<Option<Value>, Cause> {
+    match operator {
+        Token::Plus | Token::PlusAssign => extended(alloc, operator, left, right),
+        Token::Minus | Token::MinusAssign => reduced(alloc, left, right),
+        _ => Ok(compared(operator, left, right)),
     }
 }
 
@@ -103,11 +120,8 @@ fn of_truths(operator: &Token, x: bool, y: bool) -> Option<bool> {
 }
 
 /// What a binary operator gives of two integers, as [`operate`].
-///
-/// # Errors
-/// As [`operate`].
 #[inline(always)]
-pub fn operate_on_integers(
+fn operate_on_integers(
     alloc: Global,
     operator: &Token,
     x: i64,
@@ -256,7 +270,7 @@ fn push_shown(alloc: Global, text: &mut Rc<Text>, value: &Value) -> Result<(), C
 /// What an operator before its only operand gives. `None` means that it doesn't take such an operand.
 ///
 /// # Errors
-/// [`Cause::Overflow`], or out of memory.
+/// [`Failing::Overflow`](rhai_values::Failing), or out of memory.
 pub fn negate(alloc: Global, operator: &Token, value: &Value) -> Result<Option<Value>, Cause> {
     match (operator, value) {
         (Token::UnaryMinus | Token::Minus, Value::Int(x)) => match x.checked_neg() {
@@ -264,6 +278,8 @@ pub fn negate(alloc: Global, operator: &Token, value: &Value) -> Result<Option<V
             None => Err(negation_overflow(alloc, *x)),
         },
         (Token::UnaryPlus | Token::Plus, Value::Int(x)) => Ok(Some(Value::Int(*x))),
+        (Token::UnaryMinus | Token::Minus, Value::Float(x)) => Ok(Some(Value::Float(-*x))),
+        (Token::UnaryPlus | Token::Plus, Value::Float(x)) => Ok(Some(Value::Float(*x))),
         (Token::Bang, Value::Bool(x)) => Ok(Some(Value::Bool(!*x))),
         _ => Ok(None),
     }

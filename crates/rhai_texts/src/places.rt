@@ -2,7 +2,8 @@
 ghost use Rattle.std.specs.Prelude.{◌≤◌};
 
 /// Where an index leads in a list of this length: at most behind the last, and at least to the first.
-pub(crate) fn start_of(len: usize, index: i64) -> usize
+#[must_use]
+pub fn start_of(len: usize, index: i64) -> usize
     ensures { result ≤ len }
 {
     if index < 0 {
@@ -14,11 +15,13 @@ pub(crate) fn start_of(len: usize, index: i64) -> usize
 }
 
 /// A count from a script: none below 0.
-pub(crate) fn count_of(number: i64) -> usize {
+#[must_use]
+pub fn count_of(number: i64) -> usize {
     usize::try_from(number).unwrap_or(0)
 }
 
 /// A count for a script.
-pub(crate) fn number_of(count: usize) -> i64 {
+#[must_use]
+pub fn number_of(count: usize) -> i64 {
     i64::try_from(count).unwrap_or(i64::MAX)
 }

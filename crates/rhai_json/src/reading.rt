@@ -5,12 +5,12 @@ use rhai_values::{Cause, Object, SizeLimits, Value};
 use std::alloc::Global;
 use std::rc::Rc;
 
-/// The value that a JSON text says: null is unit, and of values with one name the last one stays.
+/// The value that a JSON text says: null is unit, and of values with one name the last one stays. A number that has a fraction or
+/// an exponent, or doesn't fit 64 bits, is a floating-point one. It takes time and memory by the length of the text.
 ///
 /// # Errors
-/// [`Cause::WrongType`] if the text is no JSON, or a number in it no integer; [`Cause::TooLarge`] if the limits don't allow
-/// the value; or out of memory.
-pub(crate) fn parsed(alloc: Global, limits: SizeLimits, text: &str) -> Result<Value, Cause> {
+/// [`Cause::WrongType`] if the text is no JSON; [`Cause::TooLarge`] if the limits don't allow the value; or out of memory.
+pub fn parsed(alloc: Global, limits: SizeLimits, text: &str) -> Result<Value, Cause> {
     let mut scratch = Scratch::new(alloc);
     match json::Value::parse(alloc, text, &mut scratch) {
         Ok(parsed) => within(limits, value_of(alloc, &parsed)?),
@@ -31,17 +31,20 @@ fn value_of(alloc: Global, parsed: &json::Value<'_>) -> Result<Value, Cause> {
     match parsed {
         json::Value::Null => Ok(Value::Unit),
         json::Value::Bool(truth) => Ok(Value::Bool(*truth)),
-        json::Value::Number(digits) => integer(digits),
+        json::Value::Number(digits) => number(digits),
         json::Value::String(text) => Ok(Value::text(alloc, String::from_str(alloc, text)?)?),
         json::Value::Array(items) => array(alloc, items.as_slice()),
         json::Value::Object(members) => object(alloc, members.as_slice()),
     }
 }
 
-fn integer(digits: &str) -> Result<Value, Cause> {
-    match digits.parse::<i64>() {
-        Ok(number) => Ok(Value::Int(number)),
-        Err(_) => Err(Cause::WrongType("integers of 64 bits alone in JSON")),
+fn number(digits: &str) -> Result<Value, Cause> {
+    if let Ok(number) = digits.parse::<i64>() {
+        return Ok(Value::Int(number));
+    }
+    match digits.parse::<f64>() {
+        Ok(number) => Ok(Value::Float(number)),
+        Err(_) => Err(Cause::WrongType("JSON")),
     }
 }
 

@@ -1,5 +1,5 @@
 -- Code is judged alike beside pools that operations find alike.
-use Rattle.std.proofs.Common.{◌≡◌, ℕ, ◌+◌, ◌-◌, ◌≤◌, inl, inr, List, [], ◌∷◌, Option, subst, sym, ap, ◌∙◌}
+use Rattle.std.proofs.Common.{◌≡◌, ℕ, ◌+◌, ◌-◌, ◌≤◌, inl, inr, List, [], ◌∷◌, get_or, Option, refl, subst, sym, ap, ◌∙◌}
 use Rattle.std.specs.List.{Contains}
 use Rattle.grain_rules.specs.Accepted.{ChunkPasses, IsFramed, IsSafe}
 use Rattle.grain_rules.specs.Capabilities.{Allows}
@@ -7,13 +7,18 @@ use Rattle.grain_rules.specs.Code.{Bytecode, Code, coded}
 use Rattle.grain_rules.specs.Counts.{Counts, last_base}
 use Rattle.grain_rules.specs.Effects.{Edge, Meets, after_fall, after_jump, iterators_needed, targets}
 use Rattle.grain_rules.specs.Rows.{Row, caps_of, flow_of, row}
-use Rattle.grain_rules.specs.FlowFields.{fall_for, jump_for}
+use Rattle.grain_rules.specs.Facts.{ChainFacts}
+use Rattle.grain_rules.specs.Flow as flow
+use Rattle.grain_rules.specs.Flow.{Flow}
+use Rattle.grain_rules.specs.FlowFields.{fall_for, jump_for, targets_for}
 use Rattle.grain_rules.specs.Machine.{Catches, Finds, Flows, IsKeptRun, IsRunKeptAtQuiet, Machine, Moves, MovesKeptAtQuiet, Steps}
-use Rattle.grain_rules.specs.Setting.{Setting}
+use Rattle.grain_rules.specs.Setting.{Setting, with_caps}
 use Rattle.grain_rules.specs.Sinking.{FallsShortOf, ReachesUpTo, Sinks, Stays}
 use Rattle.grain_code.specs.Span.{Span}
 use Rattle.grain_rules.specs.Typing.{HasTyping, IsDeepest, IsReachedCount, IsTyping, Passes, Reached, StandsIn, begin, onward}
 use Rattle.grain_code.specs.declared.op.Op.{Op}
+use Rattle.grain_code.specs.declared.op.Op.TheVariants as ops
+use Rattle.grain_code.specs.declared.op.Receiver.TheVariants as receiver
 
 -- the same capabilities, and the same of each operation: its row, and where it leads
 pub record Alike (s t : Setting) (u w : List (List ℕ)) : Type 0 where
@@ -29,6 +34,28 @@ flip like = record {
   leads = like.leads_back;
   leads_back = like.leads;
 }
+
+-- where flows lead, if switches lead to the same targets
+pub flow_leads : (u w : List (List ℕ)) → ((i x : ℕ) → Contains (get_or u i []) x → Contains (get_or w i []) x) → (f : Flow) (x : ℕ) → Contains (targets_for u f) x → Contains (targets_for w f) x
+flow_leads u w shared (flow.Switches i) x has = shared i x has
+flow_leads u w shared flow.Falls x has = has
+flow_leads u w shared flow.Ends x has = has
+flow_leads u w shared (flow.Jumps target) x has = has
+flow_leads u w shared (flow.Branches target) x has = has
+flow_leads u w shared flow.BeginsIterator x has = has
+flow_leads u w shared (flow.AdvancesIterator exit) x has = has
+flow_leads u w shared flow.EndsIterator x has = has
+flow_leads u w shared (flow.PushesHandler target) x has = has
+flow_leads u w shared flow.PopsHandler x has = has
+
+-- an operation finds the same of pools that differ in the cases of switches alone
+pub row_alike : (caps consts : ℕ) (names : List ℕ) (tokens assign_ops residuals : ℕ) (chains : List ChainFacts) (cs ds : List (List ℕ)) (op : Op)
+    → row (with_caps caps (record { consts = consts; names = names; tokens = tokens; assign_ops = assign_ops; residuals = residuals; chains = chains; cases = cs })) op
+    ≡ row (with_caps caps (record { consts = consts; names = names; tokens = tokens; assign_ops = assign_ops; residuals = residuals; chains = chains; cases = ds })) op
+row_alike caps consts names tokens assign_ops residuals chains cs ds (ops.CallRef n a (receiver.Local slot) capture) = refl
+row_alike caps consts names tokens assign_ops residuals chains cs ds (ops.CallRef n a (receiver.Named m) capture) = refl
+row_alike caps consts names tokens assign_ops residuals chains cs ds (ops.CallRef n a receiver.This capture) = refl
+row_alike caps consts names tokens assign_ops residuals chains cs ds op = refl
 
 -- the code of these bytes
 abbrev pub code : List ℕ → Setting → List (List ℕ) → Bytecode

@@ -5,7 +5,10 @@ use rhai_values::{Cause, Text, Value};
 use std::alloc::Global;
 
 /// The text in capital letters.
-pub(crate) fn upper(alloc: Global, text: &str) -> Result<String, Cause> {
+///
+/// # Errors
+/// Out of memory.
+pub fn upper(alloc: Global, text: &str) -> Result<String, Cause> {
     let mut changed = String::new(alloc);
     for character in text.chars() {
         for letter in character.to_uppercase() {
@@ -16,7 +19,10 @@ pub(crate) fn upper(alloc: Global, text: &str) -> Result<String, Cause> {
 }
 
 /// The text in small letters.
-pub(crate) fn lower(alloc: Global, text: &str) -> Result<String, Cause> {
+///
+/// # Errors
+/// Out of memory.
+pub fn lower(alloc: Global, text: &str) -> Result<String, Cause> {
     let mut changed = String::new(alloc);
     for character in text.chars() {
         for letter in character.to_lowercase() {
@@ -27,7 +33,10 @@ pub(crate) fn lower(alloc: Global, text: &str) -> Result<String, Cause> {
 }
 
 /// The text with another character at an index. It looks at each character once.
-pub(crate) fn with_character(
+///
+/// # Errors
+/// Out of memory.
+pub fn with_character(
     alloc: Global,
     text: &Text,
     place: usize,
@@ -43,7 +52,8 @@ pub(crate) fn with_character(
 }
 
 /// How many characters are before the first place where the other text is found; -1 if it isn't.
-pub(crate) fn index_of(text: &Text, other: &str) -> Value {
+#[must_use]
+pub fn index_of(text: &Text, other: &str) -> Value {
     match text.as_str().split_once(other) {
         Some((before, _)) => Value::Int(number_of(count_of(text, before))),
         None => Value::Int(-1),
@@ -51,7 +61,8 @@ pub(crate) fn index_of(text: &Text, other: &str) -> Value {
 }
 
 /// As [`index_of`], of the places from an index on. Behind the last character nothing is found.
-pub(crate) fn index_from(text: &Text, other: &str, start: i64) -> Value {
+#[must_use]
+pub fn index_from(text: &Text, other: &str, start: i64) -> Value {
     let first = start_of(text.count(), start);
     if first >= text.count() {
         return Value::Int(-1);
@@ -75,7 +86,10 @@ fn count_of(text: &Text, part: &str) -> usize {
 }
 
 /// The text that a text is or a character makes. `None` of other values.
-pub(crate) fn text_of(alloc: Global, value: &Value) -> Result<Option<String>, Cause> {
+///
+/// # Errors
+/// Out of memory.
+pub fn text_of(alloc: Global, value: &Value) -> Result<Option<String>, Cause> {
     match value {
         Value::Text(text) => Ok(Some(String::from_str(alloc, text.as_str())?)),
         Value::Char(character) => {
@@ -88,7 +102,10 @@ pub(crate) fn text_of(alloc: Global, value: &Value) -> Result<Option<String>, Ca
 }
 
 /// The text with one part replaced by another wherever it is found. An empty part is found nowhere.
-pub(crate) fn replaced(alloc: Global, text: &str, old: &str, new: &str) -> Result<String, Cause> {
+///
+/// # Errors
+/// Out of memory.
+pub fn replaced(alloc: Global, text: &str, old: &str, new: &str) -> Result<String, Cause> {
     if old.is_empty() {
         return Ok(String::from_str(alloc, text)?);
     }

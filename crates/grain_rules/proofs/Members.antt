@@ -1,6 +1,7 @@
--- Elements of lists.
+-- Elements of lists, and lists of what functions give.
 use Rattle.std.proofs.Common.{◌≡◌, ℕ, zero, suc, ◌<◌, inl, inr, List, [], ◌∷◌, ◌++◌, get_or, length, map, refl, subst, sym, ap, ◌∙◌, arith}
-use Rattle.std.specs.List.{AllByRecursion, AllZip, Contains}
+use Rattle.std.specs.List.{AllByRecursion, AllZip, Contains, flat_map}
+use Rattle.std.proofs.lemmas.List.Concat.{flat_map-cons}
 use Rattle.std.proofs.Math.ListN.{get_or-map}
 use Rattle.std.proofs.lemmas.List.{get_or-map as got_mapped, length-map}
 use Rattle.std.proofs.lemmas.List.Elements.{Contains-append_cases, Contains-append_left, Contains-append_right, Contains-get_or}
@@ -46,3 +47,22 @@ at_place R f g leads [] (y ∷ ys) h i x has = absurd h
 at_place R f g leads (a ∷ xs) [] h i x has = absurd h
 at_place R f g leads (a ∷ xs) (y ∷ ys) h zero x has = leads a y h.0 x has
 at_place R f g leads (a ∷ xs) (y ∷ ys) h (suc i) x has = at_place R f g leads xs ys h.1 i x has
+
+-- functions that agree give the same lists
+pub map_same : {A X : Type 0} (f g : A → X) → ((a : A) → f a ≡ g a) → (xs : List A) → map f xs ≡ map g xs
+map_same f g same [] = refl
+map_same f g same (x ∷ xs) = let here = same x in let rest = map_same f g same xs in cc
+
+pub flat_same : {A X : Type 0} (f g : A → List X) → ((a : A) → f a ≡ g a) → (xs : List A) → flat_map f xs ≡ flat_map g xs
+flat_same f g same [] = refl
+flat_same f g same (x ∷ xs) = flat_map-cons f x xs ∙ ap (λ ys. ys ++ flat_map f xs) (same x) ∙ ap (λ ys. g x ++ ys) (flat_same f g same xs) ∙ sym (flat_map-cons g x xs)
+
+-- what is read of each through its row
+pub map_by_rows : {A R X : Type 0} (f : A → X) (row : A → R) (g : R → X) → ((a : A) → f a ≡ g (row a)) → (xs : List A) → map f xs ≡ map g (map row xs)
+map_by_rows f row g by_row [] = refl
+map_by_rows f row g by_row (a ∷ xs) = let here = by_row a in let rest = map_by_rows f row g by_row xs in cc
+
+pub flat_by_rows : {A R X : Type 0} (f : A → List X) (row : A → R) (g : R → List X) → ((a : A) → f a ≡ g (row a)) → (xs : List A) → flat_map f xs ≡ flat_map g (map row xs)
+flat_by_rows f row g by_row [] = refl
+flat_by_rows f row g by_row (a ∷ xs) =
+    flat_map-cons f a xs ∙ ap (λ ys. ys ++ flat_map f xs) (by_row a) ∙ ap (λ ys. g (row a) ++ ys) (flat_by_rows f row g by_row xs) ∙ sym (flat_map-cons g (row a) (map row xs))

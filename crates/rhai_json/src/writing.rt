@@ -3,8 +3,12 @@
 use rhai_values::{Cause, List, Object, SizeLimits, Value};
 use std::alloc::{AllocError, Global};
 
-/// The JSON of a value: unit is null, and what JSON doesn't have is its text in quotes.
-pub(crate) fn text_of(alloc: Global, limits: SizeLimits, value: &Value) -> Result<String, Cause> {
+/// The JSON of a value: unit, NaN and infinities are null, and what else JSON doesn't have is its text in quotes. It takes time
+/// and memory by the size of the value, and recurses by its depth.
+///
+/// # Errors
+/// [`Cause::TooLarge`] if the limits don't allow a text as long, or out of memory.
+pub fn text_of(alloc: Global, limits: SizeLimits, value: &Value) -> Result<String, Cause> {
     let mut text = String::new(alloc);
     push_value(alloc, limits, &mut text, value)?;
     if text.len() > limits.size {
@@ -76,6 +80,7 @@ fn push_end(text: &mut String, before: char, start: &str, end: &str) -> Result<(
 fn push_scalar(alloc: Global, text: &mut String, value: &Value) -> Result<(), AllocError> {
     match value {
         Value::Unit => text.push_str("null"),
+        Value::Float(number) if !number.is_finite() => text.push_str("null"),
         Value::Text(part) => push_quoted(alloc, text, part.as_str()),
         Value::Pointer(pointer) => push_quoted(alloc, text, pointer.name()),
         value => push_shown(alloc, text, value),
@@ -84,7 +89,7 @@ fn push_scalar(alloc: Global, text: &mut String, value: &Value) -> Result<(), Al
 
 fn push_shown(alloc: Global, text: &mut String, value: &Value) -> Result<(), AllocError> {
     let shown = format!(in alloc; "{value}")?;
-    if matches!(value, Value::Bool(_) | Value::Int(_)) {
+    if matches!(value, Value::Bool(_) | Value::Int(_) | Value::Float(_)) {
         return text.push_str(shown.as_str());
     }
     push_quoted(alloc, text, shown.as_str())

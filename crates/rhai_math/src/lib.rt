@@ -1,0 +1,13 @@
+//! Functions of floating-point numbers.
+//!
+//! The C library computes those of angles, logarithms and powers: no clause says what they give.
+#![tactic(auto)]
+
+mod convert;
+mod function;
+mod operate;
+mod remainder;
+
+pub use convert::{integer_of, sign_of};
+pub use function::Math;
+pub use operate::{arithmetic, comparison};
