@@ -25,12 +25,12 @@ print([b[0], b[1], b[2], b[-2], b.get(1), b.get(5)]);
 //--- an index past the end
 let b = blob(3);
 b[3]
-//! Index out of bounds: 3
+//! Index out of bounds: 3 (length 3)
 
 //--- an assignment past the end
 let b = blob(3);
 b[3] = 1;
-//! Index out of bounds: 3
+//! Index out of bounds: 3 (length 3)
 
 //--- a byte is an integer
 let b = blob(3);

@@ -121,15 +121,15 @@ print(m.n[0] < 0);
 //--- no bit lies there
 let x = 0;
 x.set_bit(64, true)
-//! Index out of bounds: 64
+//! Index out of bounds: 64 (length 64)
 //--- no bits lie there
 let x = 0;
 x[60..=64]
-//! Index out of bounds: 64
+//! Index out of bounds: 64 (length 64)
 //--- no bits lie below the lowest
 let x = 0;
 x[-1..3]
-//! Index out of bounds: -1
+//! Index out of bounds: -1 (length 64)
 //--- a bit is a truth value
 let x = 0;
 x[0] = 1;

@@ -167,7 +167,7 @@ print(s + s.get(1) + s.len);
 //= bcc2
 //--- an index behind the characters of several bytes
 "éé"[2]
-//! Index out of bounds: 2
+//! Index out of bounds: 2 (length 2)
 //--- parts by ranges
 let s = "hello, world";
 print(s.sub_string(1..3));

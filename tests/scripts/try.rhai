@@ -121,7 +121,7 @@ try { a[5] } catch (e) {
 }
 //= map
 //= ErrorArrayBounds
-//= Index out of bounds: 5
+//= Index out of bounds: 5 (length 1)
 //= 2:9
 //--- the place of a fault in a function
 fn half(x) { x / 0 }

@@ -2,7 +2,7 @@
 
 use grain_cli::failure::Failure;
 use rhai_runtime::World;
-use rhai_values::{Cause, Failing, Value};
+use rhai_values::{Cause, Reason, Value};
 use std::alloc::Global;
 use std::io;
 use std::io::Write;
@@ -46,7 +46,7 @@ impl<O: Write + Drop, E: Write + Drop> Terminal<O, E> {
     fn failed(&mut self, error: io::Error) -> Cause {
         self.failure = Some(error);
         match String::from_str(self.alloc, "standard output can't be written") {
-            Ok(text) => Cause::Told(Failing::World, text),
+            Ok(text) => Cause::Detailed(Reason::World, text),
             Err(_) => Cause::OutOfMemory,
         }
     }

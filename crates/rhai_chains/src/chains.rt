@@ -6,7 +6,7 @@ use grain::Program;
 use grain_pools::{Step, StepFlags};
 use rhai_library::{Callee, Function, assign_item, call, item_of, item_place};
 use rhai_operators::operate;
-use rhai_values::{Cause, Failing, Key, List, Object, SizeLimits, Value};
+use rhai_values::{Cause, Reason, Key, List, Object, SizeLimits, Value};
 use std::alloc::Global;
 use std::rc::Rc;
 use std::slice;
@@ -309,7 +309,7 @@ fn property(context: &Context<'_>, value: &Value, name: u32) -> Result<Value, Ca
     let name = context.program.names().get(name).unwrap_or("");
     let type_name = value.type_name();
     let text = format!(in context.alloc; "{name} ({type_name})")?;
-    Err(Cause::Told(Failing::NoProperty, text))
+    Err(Cause::Detailed(Reason::NoProperty, text))
 }
 
 fn without_arguments(

@@ -1,7 +1,7 @@
 //! Programs of several texts: a script, and the modules that it imports. All are compiled to one program.
 //!
-//! The texts have their names and functions together, and their lines are counted on from one text to the next. So a place says
-//! which text it is in, and no position of the program is one of a module.
+//! The texts share one table of names and one list of functions. The lines of all texts are numbered as if the texts were one
+//! file, so that a line determines its text. No position of the program is one of a module.
 ghost use Rattle.std.specs.Prelude.{◌≡◌, IfErr, IfNone, IfOk};
 ghost use Rattle.grain.specs.Program.{declared_by, input_of};
 ghost use Rattle.grain.specs.Verified.{IsVerified};
@@ -18,12 +18,12 @@ use rhai_syntax::{Import, Syntax, parse, parse_more};
 use std::alloc::{AllocError, Global};
 use std::collections::HashMap;
 
-/// How many modules a program may have, so that a resolver that makes up modules comes to an end.
+/// How many modules a program may have, so that compilation ends even if a resolver has a module for each name.
 pub const MAX_MODULES: usize = 1000;
 
 /// Where the texts of modules come from.
 pub trait Modules {
-    /// The text of the module of this name, or none if there is no such module. It is asked once for each name.
+    /// The text of the module of this name, or none if there is no such module. It is called once for each name.
     ///
     /// # Errors
     /// The allocator refused.
@@ -97,7 +97,7 @@ pub fn compile_with<M: Modules>(
     }
 }
 
-/// Compiles the texts, with errors whose lines are counted on from text to text.
+/// Compiles the texts. The lines of errors are numbered as if the texts were one file.
 fn compiled_texts<M: Modules>(
     alloc: Global,
     source: &str,

@@ -251,7 +251,7 @@ const ENTRIES: &'static [Entry] = &[
     },
 ];
 
-/// The script with the functions of the prelude that it names and doesn't have itself. Their lines are counted on after this
+/// The script with the functions of the prelude that it names and doesn't have itself. Their lines are numbered after this
 /// many others.
 pub(crate) fn with_prelude(
     alloc: Global,

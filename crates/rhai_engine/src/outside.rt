@@ -1,7 +1,7 @@
 //! The world of scripts in the process of a host.
 
 use rhai_runtime::World;
-use rhai_values::{Cause, Failing};
+use rhai_values::{Cause, Reason};
 use std::alloc::{AllocError, Global};
 use std::collections::BTreeMap;
 
@@ -58,7 +58,7 @@ impl World for Outside {
         let added = line.len().saturating_add(1);
         if self.printed.len().saturating_add(added) > self.limit {
             let why = String::from_str(self.alloc, "Too much output")?;
-            return Err(Cause::Told(Failing::World, why));
+            return Err(Cause::Detailed(Reason::World, why));
         }
         self.printed.reserve(added)?;
         self.printed.push_str(line)?;

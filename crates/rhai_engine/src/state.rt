@@ -257,7 +257,7 @@ impl State {
     }
 
     /// Has the call fail for which the last run waits. A handler of the script catches the cause, or the run fails. No script catches
-    /// [`Failing::World`](rhai_values::Failing), a limit or a lack of memory.
+    /// [`Reason::World`](rhai_values::Reason), a limit or a lack of memory.
     pub fn fail(&mut self, cause: Cause) -> Event
         ensures keeps { KeepsProgram self.old self.new }
         ensures reports { Reports self.old self.new result }

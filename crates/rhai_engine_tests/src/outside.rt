@@ -4,7 +4,7 @@ use crate::host::{
     answered, begin_error, begins, called, failed, made, number, returned, state_of,
 };
 use rhai_engine::{BeginError, Bounds, Event, State};
-use rhai_values::{Cause, Failing, SizeLimits, Value};
+use rhai_values::{Cause, Reason, SizeLimits, Value};
 use std::alloc::{AllocError, Global};
 use std::test::Fail;
 
@@ -88,7 +88,7 @@ fn nested(alloc: Global) -> Result<[i64; 4], Fail> {
         _ => -5,
     };
     let _waits = answered(&mut state, 10);
-    let _failed = state.fail(Cause::Told(Failing::World, String::new(alloc)));
+    let _failed = state.fail(Cause::Detailed(Reason::World, String::new(alloc)));
     // The run of the top level waits for its first call again.
     let first = argument(&state);
     let _waits = answered(&mut state, first);

@@ -5,7 +5,7 @@ use rhai_values::{Cause, Object, SizeLimits, Value};
 use std::alloc::Global;
 use std::rc::Rc;
 
-/// The value that a JSON text says: null is unit, and of values with one name the last one stays. A number that has a fraction or
+/// The value of a JSON text: null is unit, and of values with one name the last one stays. A number that has a fraction or
 /// an exponent, or doesn't fit 64 bits, is a floating-point one. It takes time and memory by the length of the text.
 ///
 /// # Errors

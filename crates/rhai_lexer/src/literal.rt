@@ -62,7 +62,7 @@ impl<'s> Scan<'s> {
         }
     }
 
-    /// Takes decimal digits. `_` between them is no part of the number.
+    /// Takes decimal digits. It skips `_` between them.
     fn take_digits(&mut self, text: &mut String) -> Result<(), AllocError> {
         for _turn in 0..self.len() {
             match self.peek(0) {
@@ -306,7 +306,7 @@ fn integer(place: Site, digits: &str) -> Result<Kind, CompileError> {
     }
 }
 
-/// The floating point number that is nearest to what the text says. It is infinite if that is too large.
+/// The floating-point number nearest to the text. It is infinite if the number is too large.
 fn float(place: Site, text: &str) -> Result<Kind, CompileError> {
     match text.parse::<f64>() {
         Ok(value) => Ok(Kind::Float(Float::of(value))),

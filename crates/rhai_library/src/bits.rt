@@ -95,7 +95,7 @@ fn one(index: i64) -> Result<Span, Cause> {
             first,
             end: first.saturating_add(1),
         }),
-        None => Err(Cause::OutOfBounds(index)),
+        None => Err(Cause::OutOfBounds(index, BITS)),
     }
 }
 
@@ -106,7 +106,7 @@ fn counted(start: i64, count: i64) -> Result<Span, Cause> {
     }
     match place_of(BITS, start) {
         Some(_) => Ok(Span::counted(BITS, start, count)),
-        None => Err(Cause::OutOfBounds(start)),
+        None => Err(Cause::OutOfBounds(start, BITS)),
     }
 }
 
@@ -123,7 +123,7 @@ fn within(range: &Interval) -> Result<Span, Cause> {
 fn from_lowest(index: i64) -> Result<usize, Cause> {
     match usize::try_from(index) {
         Ok(place) if place < BITS => Ok(place),
-        _ => Err(Cause::OutOfBounds(index)),
+        _ => Err(Cause::OutOfBounds(index, BITS)),
     }
 }
 

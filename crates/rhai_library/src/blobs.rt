@@ -176,7 +176,7 @@ pub(crate) fn assign(
             if set(bytes, *index, byte_of(*number))? {
                 Ok(())
             } else {
-                Err(Cause::OutOfBounds(*index))
+                Err(Cause::OutOfBounds(*index, bytes.len()))
             }
         }
         (Value::Int(_), _) => Err(Cause::WrongType("an integer for a byte")),

@@ -13,7 +13,7 @@ use std::rc::Rc;
 /// It takes time by the size of its arguments and of its result.
 ///
 /// # Errors
-/// As each function: [`Failing::Overflow`](rhai_values::Failing), [`Cause::OutOfBounds`], [`Cause::WrongType`], [`Cause::TooLarge`] or out of memory.
+/// As each function: [`Reason::Overflow`](rhai_values::Reason), [`Cause::OutOfBounds`], [`Cause::WrongType`], [`Cause::TooLarge`] or out of memory.
 pub fn call(
     alloc: Global,
     limits: SizeLimits,

@@ -2,7 +2,7 @@
 
 use crate::function::Function;
 use rhai_math::{Math, integer_of, sign_of};
-use rhai_values::{Cause, Failing, Value};
+use rhai_values::{Cause, Reason, Value};
 use std::alloc::Global;
 use std::num::nearest_i64_to_f64;
 
@@ -51,7 +51,7 @@ fn signed(alloc: Global, number: f64) -> Result<Value, Cause> {
         Some(sign) => Ok(Value::Int(sign)),
         None => {
             let text = String::from_str(alloc, "Sign of NaN is undefined")?;
-            Err(Cause::Told(Failing::NoNumber, text))
+            Err(Cause::Detailed(Reason::NoNumber, text))
         }
     }
 }
@@ -62,7 +62,7 @@ fn truncated(alloc: Global, number: f64) -> Result<Value, Cause> {
         Some(integer) => Ok(Value::Int(integer)),
         None => {
             let text = format!(in alloc; "Integer overflow: to_int({number})")?;
-            Err(Cause::Told(Failing::Overflow, text))
+            Err(Cause::Detailed(Reason::Overflow, text))
         }
     }
 }
@@ -82,7 +82,7 @@ pub(crate) fn parsed(alloc: Global, text: &str) -> Result<Value, Cause> {
         Ok(number) => Ok(Value::Float(number)),
         Err(error) => {
             let text = format!(in alloc; "Error parsing floating-point number '{text}': {error}")?;
-            Err(Cause::Told(Failing::NoNumber, text))
+            Err(Cause::Detailed(Reason::NoNumber, text))
         }
     }
 }

@@ -16,11 +16,11 @@ pub fn item_place(len: usize, index: Option<&Value>) -> Result<usize, Cause> {
     };
     match place_of(len, *index) {
         Some(place) => Ok(place),
-        None => Err(Cause::OutOfBounds(*index)),
+        None => Err(Cause::OutOfBounds(*index, len)),
     }
 }
 
-/// The character of a text, the byte of a blob, or the bit of an integer, at an index; or the bits of an integer that a range says.
+/// The character of a text, the byte of a blob, or the bit of an integer, at an index; or the bits of an integer in a range.
 ///
 /// # Errors
 /// As [`item_place`], and [`Cause::WrongType`] for a value of another type.
@@ -28,11 +28,11 @@ pub fn item_of(value: &Value, index: &Value) -> Result<Value, Cause> {
     match (value, index) {
         (Value::Text(text), Value::Int(index)) => match character_at(text, *index) {
             Some(character) => Ok(Value::Char(character)),
-            None => Err(Cause::OutOfBounds(*index)),
+            None => Err(Cause::OutOfBounds(*index, text.count())),
         },
         (Value::Blob(bytes), Value::Int(index)) => match blobs::byte_at(bytes, *index) {
             Some(byte) => Ok(byte),
-            None => Err(Cause::OutOfBounds(*index)),
+            None => Err(Cause::OutOfBounds(*index, bytes.len())),
         },
         (Value::Int(number), Value::Int(index)) => bits::bit_at(*number, *index),
         (Value::Int(number), Value::Range(range)) => bits::bits_in(*number, range),
@@ -46,8 +46,8 @@ pub(crate) fn character_at(text: &Text, index: i64) -> Option<char> {
     text.character(place_of(text.count(), index)?)
 }
 
-/// Replaces the character of a text, the byte of a blob, or the bit of an integer, at an index; or the bits of an integer that a range says. Behind the
-/// last character it changes nothing.
+/// Replaces the character of a text, the byte of a blob, or the bit of an integer, at an index; or the bits of an integer in a
+/// range. After the last character it changes nothing.
 ///
 /// # Errors
 /// [`Cause::WrongType`] if the value has no such items, or what is assigned is none; [`Cause::OutOfBounds`] if no bit or byte lies there; or

@@ -1,6 +1,6 @@
 //! Functions of floating-point numbers.
 //!
-//! The C library computes those of angles, logarithms and powers: no clause says what they give.
+//! The C library computes angles, logarithms and powers: no clause describes their results.
 #![tactic(auto)]
 
 mod convert;

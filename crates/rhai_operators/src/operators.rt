@@ -13,7 +13,7 @@ use std::rc::Rc;
 /// be used up: a text or an array is extended in place where nobody else holds it.
 ///
 /// # Errors
-/// [`Failing::Overflow`](rhai_values::Failing), [`Failing::DivisionByZero`](rhai_values::Failing), or out of memory.
+/// [`Reason::Overflow`](rhai_values::Reason), [`Reason::DivisionByZero`](rhai_values::Reason), or out of memory.
 #[inline]
 pub fn operate(
     alloc: Global,
@@ -270,7 +270,7 @@ fn push_shown(alloc: Global, text: &mut Rc<Text>, value: &Value) -> Result<(), C
 /// What an operator before its only operand gives. `None` means that it doesn't take such an operand.
 ///
 /// # Errors
-/// [`Failing::Overflow`](rhai_values::Failing), or out of memory.
+/// [`Reason::Overflow`](rhai_values::Reason), or out of memory.
 pub fn negate(alloc: Global, operator: &Token, value: &Value) -> Result<Option<Value>, Cause> {
     match (operator, value) {
         (Token::UnaryMinus | Token::Minus, Value::Int(x)) => match x.checked_neg() {

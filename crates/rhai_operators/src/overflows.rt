@@ -1,7 +1,7 @@
 //! The faults of arithmetic, whose texts have the operation.
 
 use grain_base::Token;
-use rhai_values::{Cause, Failing};
+use rhai_values::{Cause, Reason};
 use std::alloc::{AllocError, Global};
 
 /// The fault of a binary operator on integers whose result doesn't fit, or that divides by zero.
@@ -10,8 +10,8 @@ use std::alloc::{AllocError, Global};
 pub(crate) fn overflow(alloc: Global, operator: &Token, x: i64, y: i64) -> Cause {
     let is_zero = y == 0 && is_division(operator);
     match sentence(alloc, operator, x, y) {
-        Ok(text) if is_zero => Cause::Told(Failing::DivisionByZero, text),
-        Ok(text) => Cause::Told(Failing::Overflow, text),
+        Ok(text) if is_zero => Cause::Detailed(Reason::DivisionByZero, text),
+        Ok(text) => Cause::Detailed(Reason::Overflow, text),
         Err(_) => Cause::OutOfMemory,
     }
 }
@@ -22,7 +22,7 @@ pub(crate) fn overflow(alloc: Global, operator: &Token, x: i64, y: i64) -> Cause
 #[must_use]
 pub fn negation_overflow(alloc: Global, x: i64) -> Cause {
     match format!(in alloc; "Negation overflow: -{x}") {
-        Ok(text) => Cause::Told(Failing::Overflow, text),
+        Ok(text) => Cause::Detailed(Reason::Overflow, text),
         Err(_) => Cause::OutOfMemory,
     }
 }

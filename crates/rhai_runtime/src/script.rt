@@ -12,7 +12,7 @@ use grain_code::Op;
 use grain_machine::{Reply, Request};
 use rhai_chains::{Context, NameTable, OpError, assign_to};
 use rhai_operators::{assign_number, of_numbers};
-use rhai_values::{Cause, Failing, SizeLimits, This, Value, Variable, Variables};
+use rhai_values::{Cause, Reason, SizeLimits, This, Value, Variable, Variables};
 use std::alloc::{AllocError, Global};
 use std::rc::Rc;
 
@@ -338,7 +338,7 @@ impl<W: World + Drop> Script<W> {
     pub(crate) fn no_variable(&self, program: &Program, name: u32) -> Cause {
         let name = program.names().get(name).unwrap_or("");
         match String::from_str(self.alloc, name) {
-            Ok(name) => Cause::Told(Failing::NoVariable, name),
+            Ok(name) => Cause::Detailed(Reason::NoVariable, name),
             Err(_) => Cause::OutOfMemory,
         }
     }

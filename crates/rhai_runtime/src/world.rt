@@ -8,7 +8,7 @@ pub trait World {
     /// Writes a line that `print` was given.
     ///
     /// # Errors
-    /// Why it can't be written. No script catches one of [`Failing::World`](rhai_values::Failing).
+    /// Why it can't be written. No script catches one of [`Reason::World`](rhai_values::Reason).
     fn print(&mut self, line: &str) -> Result<(), Cause>;
 
     /// Writes a line that `debug` was given.

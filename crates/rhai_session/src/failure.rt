@@ -1,9 +1,9 @@
 //! Why and where runs failed.
 ghost use Rattle.std.specs.Prelude.{◌≡◌};
-ghost use Rattle.rhai_session.specs.Kinds.{kind_of, kind_of_failing};
+ghost use Rattle.rhai_session.specs.Kinds.{kind_of, kind_of_reason};
 
 use grain::Position;
-use rhai_values::{Cause, Failing};
+use rhai_values::{Cause, Reason};
 
 /// Of which kind a fault is.
 #[derive(Clone, Copy, Debug, PartialEq, Eq, Drop)]
@@ -53,9 +53,9 @@ pub(crate) fn kind_of(cause: &Cause) -> Option<FaultKind>
 {
     match cause {
         Cause::Thrown(_) => Some(FaultKind::Thrown),
-        Cause::Told(failing, _) => Some(kind_of_failing(*failing)),
+        Cause::Detailed(reason, _) => Some(kind_of_reason(*reason)),
         Cause::WrongType(_) => Some(FaultKind::WrongType),
-        Cause::OutOfBounds(_) => Some(FaultKind::OutOfBounds),
+        Cause::OutOfBounds(_, _) => Some(FaultKind::OutOfBounds),
         Cause::NoThis => Some(FaultKind::NoThis),
         Cause::TooDeep => Some(FaultKind::TooDeep),
         Cause::TooLarge => Some(FaultKind::TooLarge),
@@ -64,16 +64,16 @@ pub(crate) fn kind_of(cause: &Cause) -> Option<FaultKind>
     }
 }
 
-fn kind_of_failing(failing: Failing) -> FaultKind
-    ensures { result ≡ kind_of_failing failing }
+fn kind_of_reason(reason: Reason) -> FaultKind
+    ensures { result ≡ kind_of_reason reason }
 {
-    match failing {
-        Failing::NoVariable => FaultKind::NoVariable,
-        Failing::NoFunction => FaultKind::NoFunction,
-        Failing::NoProperty => FaultKind::NoProperty,
-        Failing::Overflow => FaultKind::Overflow,
-        Failing::DivisionByZero => FaultKind::DivisionByZero,
-        Failing::NoNumber => FaultKind::WrongType,
-        Failing::World => FaultKind::Host,
+    match reason {
+        Reason::NoVariable => FaultKind::NoVariable,
+        Reason::NoFunction => FaultKind::NoFunction,
+        Reason::NoProperty => FaultKind::NoProperty,
+        Reason::Overflow => FaultKind::Overflow,
+        Reason::DivisionByZero => FaultKind::DivisionByZero,
+        Reason::NoNumber => FaultKind::WrongType,
+        Reason::World => FaultKind::Host,
     }
 }

@@ -12,7 +12,7 @@ use crate::session::{Session, text_of};
 use rhai_engine::{BeginError, Event, Status};
 use rhai_flat::CValue;
 use rhai_runtime::Fault;
-use rhai_values::{Cause, Failing, Value};
+use rhai_values::{Cause, Reason, Value};
 use std::alloc::AllocError;
 use std::slice;
 
@@ -275,7 +275,7 @@ impl Session {
             return Err(Refused::NotNow);
         }
         let why = String::from_str(self.alloc, text_of(why)?)?;
-        let event = self.state.fail(Cause::Told(Failing::World, why));
+        let event = self.state.fail(Cause::Detailed(Reason::World, why));
         self.keep_end(event);
         Ok(())
     }

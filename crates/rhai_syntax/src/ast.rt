@@ -3,6 +3,7 @@
 use grain_base::Float;
 use grain_base::pos::Site;
 use rhai_lexer::{Names, Operator};
+use std::alloc::Global;
 use std::collections::{HashMap, HashSet};
 
 /// A name, and where it is written.
@@ -266,4 +267,15 @@ pub struct Syntax {
     pub body: Vec<Expr>,
     /// What the texts have for each other.
     pub interface: Interface,
+}
+
+impl Interface {
+    pub(crate) fn new(alloc: Global) -> Interface {
+        Interface {
+            imports: Vec::new(alloc),
+            constants: HashMap::new(alloc),
+            functions: HashSet::new(alloc),
+            calls: Vec::new(alloc),
+        }
+    }
 }

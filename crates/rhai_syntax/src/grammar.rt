@@ -56,8 +56,8 @@ pub fn parse(alloc: Global, source: &str) -> Result<Syntax, CompileError> {
 }
 
 /// The syntax tree of a program with one more text, in time linear in the length of the text: with that of a module of this
-/// name, or else with the functions of a text whose statements outside of functions are left out. Its lines are counted on after
-/// this many others, so that each place is in one text. What it imports is behind what the program imports so far.
+/// name, or else with the functions of a text whose statements outside of functions are left out. Its lines are numbered after
+/// this many others, so that a line determines its text. Its imports follow those of the program so far.
 ///
 /// # Errors
 /// The first thing that is wrong with the text, or the allocator refused.

@@ -7,6 +7,7 @@
 mod ast;
 mod cursor;
 mod grammar;
+mod linking;
 mod links;
 mod operand;
 mod outermost;

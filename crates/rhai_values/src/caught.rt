@@ -1,6 +1,6 @@
 //! Faults as scripts catch them.
 
-use crate::cause::{Cause, Failing};
+use crate::cause::{Cause, Reason};
 use crate::value::{Object, Value};
 use grain_base::Position;
 use std::alloc::{AllocError, Global};
@@ -37,9 +37,9 @@ impl Cause {
     /// The name of the variant of Rhai's `EvalAltResult`.
     fn error_name(&self) -> &'static str {
         match self {
-            Cause::Told(failing, _) => name_of(*failing),
+            Cause::Detailed(reason, _) => name_of(*reason),
             Cause::WrongType(_) => "ErrorMismatchDataType",
-            Cause::OutOfBounds(_) => "ErrorArrayBounds",
+            Cause::OutOfBounds(..) => "ErrorArrayBounds",
             Cause::NoThis => "ErrorUnboundThis",
             Cause::TooDeep => "ErrorStackOverflow",
             Cause::TooLarge => "ErrorDataTooLarge",
@@ -50,13 +50,13 @@ impl Cause {
     }
 }
 
-fn name_of(failing: Failing) -> &'static str {
-    match failing {
-        Failing::NoVariable => "ErrorVariableNotFound",
-        Failing::NoFunction => "ErrorFunctionNotFound",
-        Failing::NoProperty => "ErrorPropertyNotFound",
-        Failing::Overflow | Failing::DivisionByZero | Failing::NoNumber => "ErrorArithmetic",
-        Failing::World => "ErrorRuntime",
+fn name_of(reason: Reason) -> &'static str {
+    match reason {
+        Reason::NoVariable => "ErrorVariableNotFound",
+        Reason::NoFunction => "ErrorFunctionNotFound",
+        Reason::NoProperty => "ErrorPropertyNotFound",
+        Reason::Overflow | Reason::DivisionByZero | Reason::NoNumber => "ErrorArithmetic",
+        Reason::World => "ErrorRuntime",
     }
 }
 

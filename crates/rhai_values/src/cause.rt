@@ -4,22 +4,22 @@ use crate::value::Value;
 use std::alloc::{AllocError, AllocFailed, Global};
 use std::fmt;
 
-/// What a text of a [`Cause`] is about.
+/// Why an operation failed, if a text has the details.
 #[derive(Clone, Copy, Debug, PartialEq, Eq, Drop)]
-pub enum Failing {
-    /// No variable has the name that the text is, or lies in the slot.
+pub enum Reason {
+    /// No variable has the name in the text, or none is in the slot.
     NoVariable,
-    /// No function has this name and takes such arguments: the text has the name, with the types of the arguments.
+    /// No function has this name and takes such arguments. The text has the name and the types of the arguments.
     NoFunction,
-    /// A value has no property of this name.
+    /// A value has no property of the name in the text.
     NoProperty,
-    /// A result doesn't fit 64 bits: the text has the operation.
+    /// A result doesn't fit 64 bits. The text has the operation.
     Overflow,
-    /// A divisor is zero: the text has the operation.
+    /// A divisor is zero. The text has the operation.
     DivisionByZero,
-    /// A text isn't the number that it has to be: the text says why.
+    /// A string isn't a number. The text is the whole message.
     NoNumber,
-    /// The world outside the script failed: the text says how.
+    /// The world outside the script failed. The text is the whole message.
     World,
 }
 
@@ -31,12 +31,12 @@ pub enum Cause {
     Thrown(Value),
     /// The script ends itself, and this is its value. It is no fault.
     Exited(Value),
-    /// A text says what failed.
-    Told(Failing, String),
+    /// It failed for this reason, and the text has the details.
+    Detailed(Reason, String),
     /// A value is of another type than this.
     WrongType(&'static str),
-    /// No item lies at this index.
-    OutOfBounds(i64),
+    /// No item lies at this index of a value that has this many items.
+    OutOfBounds(i64, usize),
     /// `this` is used in a function that wasn't called on a value.
     NoThis,
     /// The limit on calls under way was reached.
@@ -49,14 +49,14 @@ pub enum Cause {
     Unsupported,
 }
 
-impl Failing {
+impl Reason {
     /// How the sentence begins that ends with the text.
     fn beginning(self) -> &'static str {
         match self {
-            Failing::NoVariable => "Variable not found: ",
-            Failing::NoFunction => "Function not found: ",
-            Failing::NoProperty => "Property not found: ",
-            Failing::Overflow | Failing::DivisionByZero | Failing::NoNumber | Failing::World => "",
+            Reason::NoVariable => "Variable not found: ",
+            Reason::NoFunction => "Function not found: ",
+            Reason::NoProperty => "Property not found: ",
+            Reason::Overflow | Reason::DivisionByZero | Reason::NoNumber | Reason::World => "",
         }
     }
 }
@@ -70,7 +70,7 @@ impl Cause {
             | Cause::TooLarge
             | Cause::OutOfMemory
             | Cause::Exited(_)
-            | Cause::Told(Failing::World, _) => false,
+            | Cause::Detailed(Reason::World, _) => false,
             _ => true,
         }
     }
@@ -85,7 +85,7 @@ impl Cause {
         arguments: &[Value],
     ) -> Cause {
         match signature(alloc, name, receiver, arguments) {
-            Ok(text) => Cause::Told(Failing::NoFunction, text),
+            Ok(text) => Cause::Detailed(Reason::NoFunction, text),
             Err(_) => Cause::OutOfMemory,
         }
     }
@@ -133,12 +133,14 @@ impl fmt::Display for Cause {
         match self {
             Cause::Thrown(value) => write!(f, "Runtime error: {value}"),
             Cause::Exited(_) => f.write_str("Script exited"),
-            Cause::Told(failing, text) => {
-                f.write_str(failing.beginning())?;
+            Cause::Detailed(reason, text) => {
+                f.write_str(reason.beginning())?;
                 f.write_str(text.as_str())
             }
             Cause::WrongType(wanted) => write!(f, "Data type incorrect: expecting {wanted}"),
-            Cause::OutOfBounds(index) => write!(f, "Index out of bounds: {index}"),
+            Cause::OutOfBounds(index, len) => {
+                write!(f, "Index out of bounds: {index} (length {len})")
+            }
             Cause::NoThis => f.write_str("'this' not bound"),
             Cause::TooDeep => f.write_str("Stack overflow"),
             Cause::TooLarge => f.write_str("Size of data too large"),

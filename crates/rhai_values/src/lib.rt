@@ -31,7 +31,7 @@ mod value;
 mod variables;
 mod walk;
 
-pub use cause::{Cause, Failing};
+pub use cause::{Cause, Reason};
 pub use compare::{are_equal, as_floats, order};
 pub use constant::{constant_of, value_of};
 pub use frames::{Call, Lent, This, Variable};

@@ -39,10 +39,11 @@ pub fn swapped(value: &mut Value, keys: &[Key], new: Value) -> Result<Value, Cau
 fn replaced(value: &mut Value, key: &Key, new: Value) -> Result<Value, Cause> {
     match (value, key) {
         (Value::Array(list), Key::Index(index)) => {
-            let place = place_of(list.len(), *index).unwrap_or(usize::MAX);
+            let len = list.len();
+            let place = place_of(len, *index).unwrap_or(usize::MAX);
             match Rc::make_mut(list)?.replace(place, new) {
                 Some(old) => Ok(old),
-                None => Err(Cause::OutOfBounds(*index)),
+                None => Err(Cause::OutOfBounds(*index, len)),
             }
         }
         (Value::Map(object), Key::Name(name)) => {

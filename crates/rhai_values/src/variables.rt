@@ -1,6 +1,6 @@
 //! The variables of a run, by their slots and names.
 
-use crate::cause::{Cause, Failing};
+use crate::cause::{Cause, Reason};
 use crate::frames::{Call, Lent, This, Variable};
 use crate::path::swapped;
 use crate::shares::Shares;
@@ -81,7 +81,7 @@ impl Variables {
     /// What a slot holds, a share itself if it is one.
     ///
     /// # Errors
-    /// [`Failing::NoVariable`] if the slot holds nothing. No compiled script asks for one that doesn't.
+    /// [`Reason::NoVariable`] if the slot holds nothing. No compiled script reads such a slot.
     pub fn raw(&self, slot: u16) -> Result<&Value, Cause> {
         match self.locals.get(self.place(slot)) {
             Some(value) => Ok(value),
@@ -200,7 +200,7 @@ impl Variables {
     /// Makes the variable of a name one that closures may share.
     ///
     /// # Errors
-    /// [`Failing::NoVariable`], without the name, if there is none; or out of memory: then the variable is lost.
+    /// [`Reason::NoVariable`], without the name, if there is none; or out of memory: then the variable is lost.
     pub fn share_named(&mut self, name: u32) -> Result<(), Cause> {
         match self.named.get_mut(name as usize) {
             Some(Some(Value::Shared(_))) => Ok(()),
@@ -211,7 +211,7 @@ impl Variables {
             }
             _ => {
                 let no_name = String::new(self.alloc);
-                Err(Cause::Told(Failing::NoVariable, no_name))
+                Err(Cause::Detailed(Reason::NoVariable, no_name))
             }
         }
     }
@@ -389,7 +389,7 @@ impl Variables {
 /// The cause if a slot holds no variable. No compiled script meets it.
 fn no_slot(alloc: Global, slot: u16) -> Cause {
     match format!(in alloc; "slot {slot}") {
-        Ok(text) => Cause::Told(Failing::NoVariable, text),
+        Ok(text) => Cause::Detailed(Reason::NoVariable, text),
         Err(_) => Cause::OutOfMemory,
     }
 }
