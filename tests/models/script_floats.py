@@ -50,18 +50,23 @@ def half_away(x):
     return math.copysign(math.floor(abs(x)) + (rest >= 0.5), x)
 
 
-CALCULATED = {
-    "+": lambda x, y: x + y,
-    "-": lambda x, y: x - y,
-    "*": lambda x, y: x * y,
-    "/": divided,
-    "%": remainder,
+# Comparisons of any numbers.
+COMPARISONS = {
     "<": lambda x, y: x < y,
     "<=": lambda x, y: x <= y,
     ">": lambda x, y: x > y,
     ">=": lambda x, y: x >= y,
     "==": lambda x, y: x == y,
     "!=": lambda x, y: x != y,
+}
+
+CALCULATED = {
+    "+": lambda x, y: x + y,
+    "-": lambda x, y: x - y,
+    "*": lambda x, y: x * y,
+    "/": divided,
+    "%": remainder,
+    **COMPARISONS,
 }
 
 # Functions of one float whose result is a float.

@@ -195,12 +195,7 @@ CALCULATED = {
     "&": lambda x, y: x & y,
     "|": lambda x, y: x | y,
     "^": lambda x, y: x ^ y,
-    "<": lambda x, y: x < y,
-    "<=": lambda x, y: x <= y,
-    ">": lambda x, y: x > y,
-    ">=": lambda x, y: x >= y,
-    "==": lambda x, y: x == y,
-    "!=": lambda x, y: x != y,
+    **script_floats.COMPARISONS,
     "in": lambda x, y: x in y,
     "!in": lambda x, y: x not in y,
 }

@@ -6,7 +6,7 @@ use grain::Program;
 use grain_pools::{Step, StepFlags};
 use rhai_library::{Callee, Function, assign_item, call, item_of, item_place};
 use rhai_operators::operate;
-use rhai_values::{Cause, Reason, Key, List, Object, SizeLimits, Value};
+use rhai_values::{Cause, Key, List, Object, Reason, SizeLimits, Value};
 use std::alloc::Global;
 use std::rc::Rc;
 use std::slice;
