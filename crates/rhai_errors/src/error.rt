@@ -319,7 +319,7 @@ impl fmt::Display for Thing {
 #[derive(Clone, Copy, Debug, PartialEq, Eq, Drop, Error)]
 pub enum Problem {
     /// No lexeme begins with this character.
-    #[error("nothing begins with `{0}`")]
+    #[error("nothing begins with {0:?}")]
     StrangeCharacter(char),
     /// The text ends inside a comment.
     #[error("this comment has no end")]
@@ -388,10 +388,10 @@ pub enum Problem {
     #[error("there is no module of this name")]
     NoSuchModule,
     /// A module imports itself, maybe by others.
-    #[error("this module imports itself, directly or by others")]
+    #[error("this module imports itself, directly or through others")]
     CyclicImport,
     /// The module has no such function that others may call.
-    #[error("the module has no public function of this name with so many parameters")]
+    #[error("the module has no public function with this name and number of parameters")]
     NoSuchFunction,
     /// The module exports no such constant.
     #[error("the module exports no constant of this name")]

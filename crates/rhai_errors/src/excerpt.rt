@@ -115,7 +115,7 @@ fn add_shown(alloc: Global, shown: &mut String, c: char) -> Result<usize, AllocE
     Ok(escaped.len())
 }
 
-/// Adds this many blanks, which stand for a character. A tab stays a tab.
+/// Adds this many blanks in place of a character. A tab stays a tab.
 fn add_blanks(indent: &mut String, c: char, width: usize) -> Result<(), AllocError> {
     for _turn in 0..width {
         indent.push(if c == '\t' { '\t' } else { ' ' })?;
