@@ -44,6 +44,7 @@ OTHERS = {
     "grain_proved_file_verify": "grain_c/src/files.rt",
     "grain_proved_file_tighten": "grain_c/src/changed.rt",
     "grain_proved_session_compile": "grain_engine_c/src/opening.rt",
+    "grain_proved_session_compile_modules": "grain_engine_c/src/opening.rt",
     "grain_proved_session_load": "grain_engine_c/src/opening.rt",
     "grain_proved_session_resume": "grain_engine_c/src/calls.rt",
 }

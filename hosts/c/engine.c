@@ -91,6 +91,42 @@ grain_status grain_state_compile(grain_state **state, const char *source, size_t
                                                some_room(text), text_size, &size));
 }
 
+/* The modules without NULL, in a block that counts for the budget in use; NULL if that is refused. */
+static grain_module_text *modules_of(const grain_module *modules, size_t many) {
+    if (many > SIZE_MAX / sizeof(grain_module_text))
+        return NULL;
+    grain_module_text *texts = take_block(many * sizeof *texts, 16);
+    for (size_t i = 0; texts != NULL && i < many; i++)
+        texts[i] = (grain_module_text){some(modules[i].name), modules[i].name_len, some(modules[i].source), modules[i].source_len};
+    return texts;
+}
+
+/* Has the session of a state compile. */
+static uint32_t compile_modules(grain_state *state, const char *source, size_t source_len, const grain_module *modules,
+                                size_t modules_len, const grain_bounds *bounds, char *text, size_t text_size) {
+    size_t size;
+    grain_session *session = session_of(state);
+    grain_module_text *texts = modules_of(modules, modules_len);
+    if (texts == NULL)
+        return GRAIN_OUT_OF_MEMORY;
+    uint32_t status = grain_proved_session_compile_modules(session, some(source), source_len, texts, modules_len, bounds,
+                                                           some_room(text), text_size, &size);
+    free_block(texts);
+    return status;
+}
+
+grain_status grain_state_compile_modules(grain_state **state, const char *source, size_t source_len,
+                                         const grain_module *modules, size_t modules_len, const grain_bounds *bounds,
+                                         char *text, size_t text_size) {
+    const grain_bounds *some_bounds = bounds != NULL ? bounds : &usual_bounds;
+    grain_state *made = new_state(some_bounds->memory);
+    *state = NULL;
+    if (made == NULL)
+        return GRAIN_OUT_OF_MEMORY;
+    return opened(state, made,
+                  compile_modules(made, source, source_len, modules, modules_len, some_bounds, text, text_size));
+}
+
 grain_status grain_state_load(grain_state **state, const uint8_t *bytes, size_t bytes_len, uint16_t caps, uint64_t limit,
                               const grain_limits *limits, const grain_bounds *bounds, grain_read_error *error,
                               grain_report *report) {

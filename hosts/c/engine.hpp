@@ -97,6 +97,9 @@ struct Thrown {
     Values value;
 };
 
+// The texts of modules that a script may import, by their names.
+using Modules = std::map<std::string, std::string>;
+
 // The variables of a script, and its runs.
 class State {
   public:
@@ -104,12 +107,21 @@ class State {
 
     // Compiles a script. It throws a report with the line if the text has an error.
     explicit State(const std::string &source, const grain_bounds &bounds = GRAIN_BOUNDS_DEFAULT) : state_(nullptr) {
-        char report[1024] = "";
-        const grain_status status =
-            grain_state_compile(&state_, source.data(), source.size(), &bounds, report, sizeof report);
-        if (status == GRAIN_NO_SCRIPT)
-            throw std::runtime_error(report);
-        check(status);
+        char report[REPORT_SIZE] = "";
+        check_compiled(grain_state_compile(&state_, source.data(), source.size(), &bounds, report, sizeof report), report);
+    }
+    // Compiles a script and the modules that it imports. A report of an error in a module begins with the module's name.
+    State(const std::string &source, const Modules &modules, const grain_bounds &bounds = GRAIN_BOUNDS_DEFAULT)
+        : state_(nullptr) {
+        char report[REPORT_SIZE] = "";
+        std::vector<grain_module> list;
+        for (const auto &each : modules) {
+            const grain_module module = {each.first.data(), each.first.size(), each.second.data(), each.second.size()};
+            list.push_back(module);
+        }
+        check_compiled(grain_state_compile_modules(&state_, source.data(), source.size(), list.data(), list.size(), &bounds,
+                                                   report, sizeof report),
+                       report);
     }
     ~State() { grain_state_free(state_); }
     State(State &&other) noexcept : state_(other.state_), functions_(std::move(other.functions_)) { other.state_ = nullptr; }
@@ -179,7 +191,14 @@ class State {
     }
 
   private:
+    enum { REPORT_SIZE = 1024 };
+
     explicit State(grain_state *state) : state_(state) {}
+    static void check_compiled(grain_status status, const char *report) {
+        if (status == GRAIN_NO_SCRIPT)
+            throw std::runtime_error(report);
+        check(status);
+    }
     static void check(grain_status status) {
         if (status == GRAIN_OUT_OF_MEMORY)
             throw std::bad_alloc();

@@ -1,5 +1,5 @@
-/* A host of scripts: compiles a stranger's script within bounds, gives it three functions, runs it, and calls its `score` three
- * times: engine_host FILE. An error is shown with its line. */
+/* A host of scripts: compiles a stranger's script within bounds, gives it a module and three functions, runs it, and calls its
+ * `score` three times: engine_host FILE. An error is shown with its line. */
 #include "callbacks.h"
 
 #include <stdio.h>
@@ -33,6 +33,11 @@ static int64_t hundred = 100;
 static const grain_host_function functions[] = {{"limit", 0, limit, &hundred}, {"double", 1, twice, NULL}, {"fetch", 1, fetch, NULL}};
 enum { FUNCTIONS = sizeof functions / sizeof *functions };
 
+/* What scripts may import. */
+static const char levels[] = "fn level(score) { if score < 5 { 1 } else { 2 } }\n";
+static const grain_module modules[] = {{"levels", 6, levels, sizeof levels - 1}};
+enum { MODULES = sizeof modules / sizeof *modules };
+
 static void print_number(const grain_value *row) {
     if (row->tag == GRAIN_VALUE_FLOAT)
         printf("%g\n", grain_double(row));
@@ -61,7 +66,8 @@ int main(int argc, char **argv) {
         return 2;
     size_t length = fread(source, 1, sizeof source, stream);
     fclose(stream);
-    grain_status status = grain_state_compile(&state, source, length, &bounds, report, sizeof report);
+    grain_status status =
+        grain_state_compile_modules(&state, source, length, modules, MODULES, &bounds, report, sizeof report);
     if (status != GRAIN_ACCEPTED)
         return fputs(status == GRAIN_NO_SCRIPT ? report : "out of memory\n", stdout), 1;
     int failed = grain_register_all(state, functions, FUNCTIONS) != GRAIN_ACCEPTED ||

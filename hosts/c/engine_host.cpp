@@ -16,6 +16,11 @@ static std::string text_of(const char *path) {
     return std::string(std::istreambuf_iterator<char>(stream), std::istreambuf_iterator<char>());
 }
 
+// What scripts may import.
+static grain::Modules modules() {
+    return {{"levels", "fn level(score) { if score < 5 { 1 } else { 2 } }\n"}};
+}
+
 static void add_functions(State &state) {
     state.add("limit", 0, [](State &, const Values &) { return Values().add(100); });
     state.add("double", 1, [](State &, const Values &arguments) { return Values().add(2 * arguments.integer(0)); });
@@ -27,7 +32,7 @@ int main(int argc, char **argv) {
         return EXIT_FAILURE;
     try {
         const grain_bounds bounds = {100000, 16, 200, 4, 65536, 1 << 24};
-        State state(text_of(argv[1]), bounds);
+        State state(text_of(argv[1]), modules(), bounds);
         add_functions(state);
         std::cout << state.run(TURNS).integer(0) << '\n';
         for (std::int64_t n = 1; n <= 3; n++)

@@ -1,6 +1,6 @@
-/* Any bytes as a program file that is run; others as calls of a state, with values for them. Statuses are those of the header, rows
- * that go in come out again, nothing leaks. In a part of the runs an allocation is refused, and in a part each block ends at a
- * page that can't be touched. For libFuzzer, with a corpus as for fuzz.c:
+/* Any bytes as a program file that is run; others as calls of a state, with values for them, and as modules of a script. Statuses are
+ * those of the header, rows that go in come out again, nothing leaks. In a part of the runs an allocation is refused, and in a part
+ * each block ends at a page that can't be touched. For libFuzzer, with a corpus as for fuzz.c:
  *
  *     clang -g -O1 -fsanitize=fuzzer,address,undefined hosts/c/fuzz_engine.c hosts/out/libgrain.a -lm -o hosts/out/fuzz_engine
  *     hosts/out/fuzz_engine -max_len=4096 -max_total_time=600 hosts/out/found hosts/out/corpus
@@ -180,6 +180,68 @@ static void try_calls(input from) {
     grain_state_free(state);
 }
 
+enum { MODULES = 4 };
+
+/* A text in a block of its own; NULL if it is empty. */
+typedef struct {
+    char *bytes;
+    size_t len;
+} piece;
+
+static piece copied(const void *bytes, size_t len) {
+    return (piece){len > 0 ? memcpy(grain_alloc(len, 1), bytes, len) : NULL, len};
+}
+
+static void drop(piece of) {
+    if (of.bytes != NULL)
+        grain_dealloc(of.bytes);
+}
+
+/* One of these texts, or the next part of the input. */
+static piece read_text(input *from, const char *const *texts, size_t many) {
+    size_t which = byte_of(from) % (many + 1);
+    if (which < many)
+        return copied(texts[which], strlen(texts[which]));
+    size_t len = byte_of(from);
+    if (len > from->left)
+        len = from->left;
+    from->at += len;
+    from->left -= len;
+    return copied(from->at - len, len);
+}
+
+/* A script with up to four modules. It is run if it is compiled. */
+static void try_modules(input from) {
+    static const char *const given_names[] = {"a", "b", "c", ""};
+    static const char *const given[] = {"import \"a\" as m; m::f(1) + m::ONE", "import \"b\" as m; fn f(x) { m::f(x) }",
+                                        "import \"c\" as m; export const ONE = 1; fn f(x) { m::f(x) }",
+                                        "export const ONE = 2; fn f(x) { [x, global::ONE] }", "import \"\" as m; 1"};
+    piece names[MODULES], texts[MODULES], main_text = read_text(&from, given, 5);
+    grain_module modules[MODULES];
+    size_t many = byte_of(&from) % (MODULES + 1);
+    grain_state *state;
+    char report[64];
+    for (size_t i = 0; i < many; i++) {
+        names[i] = read_text(&from, given_names, 4);
+        texts[i] = read_text(&from, given, 5);
+        modules[i] = (grain_module){names[i].bytes, names[i].len, texts[i].bytes, texts[i].len};
+    }
+    left = byte_of(&from) % 4 == 1 ? byte_of(&from) : -1;
+    grain_status status = grain_state_compile_modules(&state, main_text.bytes, main_text.len, many > 0 ? modules : NULL, many,
+                                                      &bounds, report, sizeof report);
+    REQUIRE(status == GRAIN_ACCEPTED || status == GRAIN_NO_SCRIPT || status == GRAIN_OUT_OF_MEMORY);
+    REQUIRE((status == GRAIN_ACCEPTED) == (state != NULL));
+    if (state != NULL)
+        run_file(state);
+    left = -1;
+    grain_state_free(state);
+    drop(main_text);
+    for (size_t i = 0; i < many; i++) {
+        drop(names[i]);
+        drop(texts[i]);
+    }
+}
+
 int LLVMFuzzerTestOneInput(const uint8_t *given, size_t len);
 
 int LLVMFuzzerTestOneInput(const uint8_t *given, size_t len) {
@@ -192,7 +254,9 @@ int LLVMFuzzerTestOneInput(const uint8_t *given, size_t len) {
         run_file(state);
     left = -1;
     grain_state_free(state);
-    if (status == GRAIN_MALFORMED)
+    if (status == GRAIN_MALFORMED && len > 0 && given[0] % 4 == 3)
+        try_modules((input){given + 1, len - 1});
+    else if (status == GRAIN_MALFORMED)
         try_calls((input){given, len});
     REQUIRE(live == 0);
     return 0;

@@ -110,13 +110,31 @@ static inline void grain_foreign(grain_value rows[4], int64_t kind, int64_t numb
 
 /* ---- States ---- */
 
-/* Compiles a source text, and makes a state of it that has no variables. `bounds` may be NULL: GRAIN_BOUNDS_DEFAULT.
+/* Compiles a source text, which can't import modules, and makes a state of it that has no variables. `bounds` may be NULL:
+ * GRAIN_BOUNDS_DEFAULT.
  *
  * GRAIN_ACCEPTED: *state is the state, until grain_state_free. With all other results it is NULL. GRAIN_NO_SCRIPT: the text has
  * an error. A message with its line, its column and an excerpt is written to `text`, as much as there is room for, ended by
  * 0. GRAIN_BAD_LIMIT: bounds->value_depth is above GRAIN_DEPTH_MAX. GRAIN_OUT_OF_MEMORY. */
 GRAIN_NODISCARD grain_status grain_state_compile(grain_state **state, const char *source, size_t source_len,
                                                  const grain_bounds *bounds, char *text, size_t text_size);
+
+/* A module that scripts may import: its name, as `import` has it, and its text. */
+typedef struct grain_module {
+    const char *name;
+    size_t name_len;
+    const char *source;
+    size_t source_len;
+} grain_module;
+
+/* Compiles a source text as grain_state_compile does, and the modules that it and they import: those of a list, which is read
+ * until the call returns. It takes time linear in all names and texts, and n log n for n bytes of names, whatever they are.
+ *
+ * GRAIN_NO_SCRIPT also means that a module has an error, which may be the import of one that isn't listed, that a name or a text
+ * isn't UTF-8, or that two modules have the same name. The message names the module in place of `script`. */
+GRAIN_NODISCARD grain_status grain_state_compile_modules(grain_state **state, const char *source, size_t source_len,
+                                                         const grain_module *modules, size_t modules_len,
+                                                         const grain_bounds *bounds, char *text, size_t text_size);
 
 /* Reads a program file as grain_file_read does, verifies it as grain_file_verify does, and makes a state of it. `limits`, `bounds`,
  * `error` and `report` may be NULL.

@@ -18,8 +18,19 @@ typedef struct grain_sizes {
     size_t count;
 } grain_sizes;
 
+/* A module as the proved code reads it. */
+typedef struct grain_module_text {
+    const uint8_t *name;
+    size_t name_len;
+    const uint8_t *source;
+    size_t source_len;
+} grain_module_text;
+
 uint32_t grain_proved_session_compile(grain_session *session, const uint8_t *source, size_t source_len,
                                       const grain_bounds *bounds, uint8_t *text, size_t text_len, size_t *size);
+uint32_t grain_proved_session_compile_modules(grain_session *session, const uint8_t *source, size_t source_len,
+                                              const grain_module_text *modules, size_t modules_len,
+                                              const grain_bounds *bounds, uint8_t *text, size_t text_len, size_t *size);
 uint32_t grain_proved_session_load(grain_session *session, const uint8_t *bytes, size_t bytes_len, uint16_t host, uint64_t work,
                                    const grain_limits *limits, const grain_bounds *bounds, grain_read_error *error,
                                    grain_report *report);

@@ -94,6 +94,88 @@ static void try_errors(void) {
     grain_state_free(NULL);
 }
 
+static grain_module module_of(const char *name, const char *source) {
+    return (grain_module){name, name != NULL ? strlen(name) : 0, source, source != NULL ? strlen(source) : 0};
+}
+
+/* Whether a script that imports `a` isn't compiled with these modules, by a report that begins so. */
+static bool is_refused_by(const grain_module *modules, size_t many, const char *report) {
+    static const char text[] = "import \"a\" as a; a::f(1)";
+    char found[400] = "";
+    grain_state *state;
+    grain_status status =
+        grain_state_compile_modules(&state, text, sizeof text - 1, modules, many, NULL, found, sizeof found);
+    if (strstr(found, report) != found)
+        printf("%s\n", found);
+    return status == GRAIN_NO_SCRIPT && state == NULL && strstr(found, report) == found;
+}
+
+static void try_wrong_modules(void) {
+    static const char unknown[] = "script:1:8: error: there is no module of this name\n";
+    static const char calls[] = "\nimport \"b\" as b;\nfn f(n) { b::g(n) }";
+    grain_module unnamed = {"\xff", 1, NULL, 0}, unread = {"a", 1, "\xff", 1};
+    grain_module others[] = {module_of("b", "fn g(n) { n }"), module_of(NULL, NULL)};
+    grain_module broken[] = {module_of("b", "fn g(n) {\n let x = ;"), module_of("a", calls)};
+    grain_module missing[] = {module_of("c", ""), module_of("a", calls)};
+    grain_module twice[] = {module_of("a", "fn f(n) { n }"), module_of("b", ""), module_of("a", "")};
+    CHECK(is_refused_by(NULL, 0, unknown) && is_refused_by(others, LENGTH(others), unknown));
+    CHECK(is_refused_by(broken, LENGTH(broken), "b:2:10: error: an expression is expected here\n"));
+    CHECK(is_refused_by(missing, LENGTH(missing), "a:2:8: error: there is no module of this name\n"));
+    CHECK(is_refused_by(twice, LENGTH(twice), "a: error: two modules have this name\n"));
+    CHECK(is_refused_by(&unnamed, 1, "module 0: error: the name is not UTF-8\n"));
+    CHECK(is_refused_by(&unread, 1, "a: error: the text is not UTF-8\n"));
+}
+
+/* Modules are read until the call returns: their bytes are others afterwards. */
+static void try_modules(void) {
+    static const char text[] = "import \"a\" as a; fn g(n) { a::f(n) } a::f(1) + a::ONE";
+    char name[] = "a", source[] = "import \"b\" as b; export const ONE = 1; fn f(n) { b::twice(n) }";
+    grain_module modules[] = {module_of("b", "fn twice(n) { double(n) }"), module_of(name, source), module_of(NULL, NULL)};
+    grain_bounds bounds = GRAIN_BOUNDS_DEFAULT;
+    grain_value row = grain_integer(20);
+    grain_values value = one(&row, NULL);
+    grain_state *state;
+    CHECK(grain_state_compile_modules(&state, text, sizeof text - 1, modules, LENGTH(modules), &bounds, NULL, 0) == GRAIN_ACCEPTED);
+    memset(name, 'x', sizeof name - 1);
+    memset(source, 'x', sizeof source - 1);
+    memset(modules, 0, sizeof modules);
+    CHECK(grain_state_register(state, "double", 6, 1) == GRAIN_ACCEPTED && begin(state, NULL, NULL) == GRAIN_ACCEPTED);
+    CHECK(grain_state_resume(state, 1000, NULL) == GRAIN_EVENT_CALLS && is_asked(state, "double", 1));
+    CHECK(grain_state_answer(state, &value) == GRAIN_ACCEPTED && is_returned(state, 21));
+    CHECK(begin(state, "f", &value) == GRAIN_NO_NAME && begin(state, "g", &value) == GRAIN_ACCEPTED);
+    CHECK(grain_state_resume(state, 1000, NULL) == GRAIN_EVENT_CALLS && is_asked(state, "double", 20));
+    grain_state_free(state);
+    CHECK(grain_state_compile_modules(&state, "1", 1, NULL, 0, NULL, NULL, 0) == GRAIN_ACCEPTED);
+    grain_state_free(state);
+    bounds.value_depth = GRAIN_DEPTH_MAX + 1;
+    CHECK(grain_state_compile_modules(&state, "1", 1, NULL, 0, &bounds, NULL, 0) == GRAIN_BAD_LIMIT && state == NULL);
+    CHECK(grain_state_compile_modules(&state, "1", 1, NULL, SIZE_MAX, NULL, NULL, 0) == GRAIN_OUT_OF_MEMORY && state == NULL);
+    try_wrong_modules();
+}
+
+/* What the table takes counts for the state until it is compiled. The names are such that a search from the first on would be slow. */
+static void try_many_modules(void) {
+    enum { MANY = 20000 };
+    static char names[MANY][9];
+    static grain_module modules[MANY];
+    grain_bounds bounds = GRAIN_BOUNDS_DEFAULT;
+    grain_state *state, *other;
+    for (int i = 0; i < MANY; i++) {
+        snprintf(names[i], sizeof names[i], "xxx%05d", i);
+        modules[i] = module_of(names[i], "fn f() { 5 }");
+    }
+    static const char text[] = "import \"xxx12345\" as m; m::f()";
+    CHECK(grain_state_compile_modules(&state, text, sizeof text - 1, modules, MANY, &bounds, NULL, 0) == GRAIN_ACCEPTED);
+    CHECK(begin(state, NULL, NULL) == GRAIN_ACCEPTED && is_returned(state, 5));
+    CHECK(grain_state_compile(&other, "5", 1, NULL, NULL, 0) == GRAIN_ACCEPTED);
+    CHECK(grain_state_memory(state) < grain_state_memory(other) + 4096);
+    grain_state_free(other);
+    grain_state_free(state);
+    bounds.memory = MANY * sizeof *modules;
+    CHECK(grain_state_compile_modules(&state, text, sizeof text - 1, modules, MANY, &bounds, NULL, 0) == GRAIN_OUT_OF_MEMORY);
+    CHECK(state == NULL && live == 0);
+}
+
 /* Runs and calls: what comes in which order, and what isn't possible then. */
 static void try_runs(grain_state *state) {
     grain_value row = grain_integer(21), answer = grain_integer(42);
@@ -306,13 +388,13 @@ static void try_memory(void) {
 }
 
 /* Compiles, calls and answers until something is refused; whether nothing was. */
-static bool runs_through(void) {
-    static const char text[] = "fn f(n) { let a = [n, \"text\"]; a.push(double(n)); print(a); a } f(1)";
+static bool runs_through(const char *text, const grain_module *modules, size_t many) {
     grain_value row = grain_integer(4);
     grain_values value = one(&row, NULL);
     grain_asked asked;
     grain_state *state;
-    grain_status status = grain_state_compile(&state, text, sizeof text - 1, NULL, NULL, 0);
+    grain_status status = many > 0 ? grain_state_compile_modules(&state, text, strlen(text), modules, many, NULL, NULL, 0)
+                                   : grain_state_compile(&state, text, strlen(text), NULL, NULL, 0);
     if (status != GRAIN_ACCEPTED) {
         CHECK(status == GRAIN_OUT_OF_MEMORY && state == NULL);
         return false;
@@ -331,12 +413,12 @@ static bool runs_through(void) {
     return well;
 }
 
-static void try_refused(void) {
+static void try_refused(const char *text, const grain_module *modules, size_t many) {
     long refused = 0;
     bool well = false;
     for (; !well && refused < 100000; refused++) {
         left = refused;
-        well = runs_through();
+        well = runs_through(text, modules, many);
         left = -1;
         CHECK(live == 0);
     }
@@ -344,8 +426,17 @@ static void try_refused(void) {
     printf("%ld allocations refused\n", refused - 1);
 }
 
+static void try_all_refused(void) {
+    grain_module modules[] = {module_of("a", "import \"b\" as b; fn g(n) { let a = [n, b::TEXT]; a.push(double(n)); print(a); a }"),
+                              module_of("b", "export const TEXT = \"text\";"), module_of("c", "fn g() { }")};
+    try_refused("fn f(n) { let a = [n, \"text\"]; a.push(double(n)); print(a); a } f(1)", NULL, 0);
+    try_refused("import \"a\" as a; fn f(n) { a::g(n) } f(1)", modules, LENGTH(modules));
+}
+
 int main(void) {
     try_errors();
+    try_modules();
+    try_many_modules();
     grain_state *state = compiled();
     try_runs(state);
     try_faults(state);
@@ -357,6 +448,6 @@ int main(void) {
     grain_state_free(state);
     try_memory();
     CHECK(live == 0);
-    try_refused();
+    try_all_refused();
     return wrong != 0;
 }

@@ -19,3 +19,4 @@ pub use grain_flat::{CRefusal, CReport};
 pub use grain_flat_file::{CLimits, CReadError, CValue};
 pub use handle::CSession;
 pub use records::{CBounds, CFailure, CSizes};
+pub use rhai_session::CModuleText;

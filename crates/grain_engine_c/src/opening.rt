@@ -17,7 +17,7 @@ use grain_base::{Caps, Flags};
 use grain_file::{Limits, MAX_DEPTH, ReadError, WriteError};
 use grain_flat::{CReport, lack_record, refusal_record};
 use grain_flat_file::{CLimits, CReadError, read_error_record};
-use rhai_session::{CompileStop, LoadStop, Session};
+use rhai_session::{CModuleText, CompileStop, LoadStop, Session};
 use rhai_values::Cause;
 use std::alloc::Global;
 
@@ -33,6 +33,19 @@ fn kept(alloc: Global, session: &mut CSession, made: Session) -> u32
             ACCEPTED
         }
         Err(_) => OUT_OF_MEMORY,
+    }
+}
+
+/// What is returned if a text isn't compiled. A report is written.
+fn not_compiled(stop: CompileStop, text: &mut [u8], size: &mut usize) -> u32
+    ensures { (result ≢ ACCEPTED) × (result ≢ BAD_LIMIT) }
+{
+    match stop {
+        CompileStop::NoScript(report) => {
+            *size = copy_text(report.as_str(), text);
+            NO_SCRIPT
+        }
+        CompileStop::OutOfMemory => OUT_OF_MEMORY,
     }
 }
 
@@ -63,11 +76,41 @@ pub extern "C" fn grain_proved_session_compile(
     }
     match Session::compile(alloc, source, bounds_of(bounds)) {
         Ok(made) => kept(alloc, session, made),
-        Err(CompileStop::NoScript(report)) => {
-            *size = copy_text(report.as_str(), text);
-            NO_SCRIPT
-        }
-        Err(CompileStop::OutOfMemory) => OUT_OF_MEMORY,
+        Err(stop) => not_compiled(stop, text, size),
+    }
+}
+
+/// Compiles a source text and the modules of a table that it imports, and has the handle keep a session of it. What the handle kept
+/// before is freed.
+///
+/// - 0: the handle keeps it.
+/// - 3: the allocator refused.
+/// - 11: the bound on nesting is above 256. This is tested first.
+/// - 13: the text, a module that it imports or the table has an error. A report of `size` bytes is written to `text`, as far as there
+///   is room, and ended by 0.
+#[unsafe(no_mangle)]
+pub extern "C" fn grain_proved_session_compile_modules(
+    alloc: Global,
+    session: &mut CSession,
+    source: &[u8],
+    modules: &[CModuleText<'_>],
+    bounds: &CBounds,
+    text: &mut [u8],
+    size: &mut usize,
+) -> u32
+    ensures bound { (result ≡ BAD_LIMIT) ↔ (MAX_DEPTH < bounds.now.value_depth) }
+    ensures accepted { result ≡ ACCEPTED → (session.new.made ≡ true)
+        × IsAccepted (input_of session.new.content.state.program) }
+    ensures new { result ≡ ACCEPTED → session.new.content ≡ shown_of
+        (idle session.new.content.state.program bounds.now.calls bounds.now.runs) None [] [] 0 [] None }
+    ensures refused { result ≢ ACCEPTED → session.new ≡ session.old }
+{
+    if bounds.value_depth > MAX_DEPTH as usize {
+        return BAD_LIMIT;
+    }
+    match Session::compile_modules(alloc, source, modules, bounds_of(bounds)) {
+        Ok(made) => kept(alloc, session, made),
+        Err(stop) => not_compiled(stop, text, size),
     }
 }
 

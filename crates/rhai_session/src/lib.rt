@@ -8,6 +8,7 @@
 mod event;
 mod failure;
 mod foreign;
+mod modules;
 mod opening;
 mod report;
 mod running;
@@ -15,5 +16,6 @@ mod session;
 
 pub use event::{Answer, HostEvent, Refused};
 pub use failure::{FaultKind, RunFailure};
+pub use modules::CModuleText;
 pub use opening::{CompileStop, LoadStop};
 pub use session::Session;

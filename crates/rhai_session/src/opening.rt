@@ -5,21 +5,22 @@ ghost use Rattle.grain_rules.specs.Accepted.{IsAccepted};
 ghost use Rattle.rhai_engine.specs.Session.{idle};
 ghost use Rattle.rhai_session.specs.Shown.{shown_of};
 
+use crate::modules::{CModuleText, ModuleTable, read_text, shown_name};
 use crate::session::Session;
 use grain::{Caps, Chunk, Flags, Program, Refusal, Verified, VerifyError};
 use grain_file::{Limits, ReadError, read};
 use grain_machine::prepare;
-use rhai_compile::{CompileError, Options, Problem, compile, report};
+use rhai_compile::{CompileError, LinkError, Options, Problem, compile, compile_with, report};
 use rhai_engine::Bounds;
 use rhai_values::Cause;
 use std::alloc::{AllocError, AllocFailed, Global};
-use std::str;
 use std::sync::Arc;
 
 /// Why a source text has no session.
 #[derive(Drop)]
 pub enum CompileStop {
-    /// The text has an error: a report with its line, its column and an excerpt.
+    /// The text, or that of a module, has an error: a report with its line, its column and an excerpt. Or the table of modules
+    /// has one.
     NoScript(String),
     /// Out of memory.
     OutOfMemory,
@@ -48,6 +49,12 @@ impl From<AllocError> for CompileStop {
     }
 }
 
+impl<T: Drop> From<AllocFailed<T>> for CompileStop {
+    fn from(_: AllocFailed<T>) -> CompileStop {
+        CompileStop::OutOfMemory
+    }
+}
+
 impl From<AllocError> for LoadStop {
     fn from(_: AllocError) -> LoadStop {
         LoadStop::OutOfMemory
@@ -69,16 +76,34 @@ impl From<Cause> for LoadStop {
     }
 }
 
-/// What a source text is called in reports.
-const SOURCE: &str = "script";
+/// What the text of a script is called in reports. That of a module is called by the module's name.
+const SCRIPT: &str = "script";
 
-/// Why a text isn't compiled.
-fn stop_of(alloc: Global, source: &str, error: CompileError) -> CompileStop {
+/// Variables that the text doesn't declare are those that the host sets.
+const OPTIONS: Options = Options {
+    strict_variables: false,
+    debug_id: 0,
+};
+
+/// Why a text isn't compiled, which reports call by this name.
+fn stop_of(alloc: Global, name: &str, source: &str, error: CompileError) -> CompileStop {
     if error.problem == Problem::OutOfMemory {
         return CompileStop::OutOfMemory;
     }
-    match report(alloc, SOURCE, source, &error) {
+    match report(alloc, name, source, &error) {
         Ok(report) => CompileStop::NoScript(report),
+        Err(AllocError) => CompileStop::OutOfMemory,
+    }
+}
+
+/// Why a script with modules isn't compiled.
+fn stop_of_link(alloc: Global, source: &str, stopped: LinkError) -> CompileStop {
+    let LinkError { module, error } = stopped;
+    let Some(module) = module else {
+        return stop_of(alloc, SCRIPT, source, error);
+    };
+    match shown_name(alloc, module.name.as_str()) {
+        Ok(name) => stop_of(alloc, name.as_str(), module.source.as_str(), error),
         Err(AllocError) => CompileStop::OutOfMemory,
     }
 }
@@ -109,7 +134,24 @@ impl Session {
         Ok(Session::new(alloc, prepared, bounds)?)
     }
 
-    /// Compiles a source text. It takes time linear in the length of the text, except as [`compile`] says.
+    /// A session of a program that the compiler has made.
+    fn of_compiled(
+        alloc: Global,
+        verified: Verified,
+        bounds: Bounds,
+    ) -> Result<Session, CompileStop>
+        ensures { IfOk result (λ made. made
+            ≡ shown_of (idle verified.program bounds.calls bounds.runs) None [] [] 0 [] None) }
+    {
+        match Session::of(alloc, verified, bounds) {
+            Ok(session) => Ok(session),
+            // A compiled program has no constant of another host.
+            Err(_) => Err(CompileStop::OutOfMemory),
+        }
+    }
+
+    /// Compiles a source text, which can't import modules. It takes time linear in the length of the text, except as [`compile`]
+    /// says.
     ///
     /// # Errors
     /// [`CompileStop::NoScript`]: the bytes aren't UTF-8, or the text has an error.
@@ -118,24 +160,35 @@ impl Session {
         ensures new { IfOk result (λ made. made
             ≡ shown_of (idle made.state.program bounds.calls bounds.runs) None [] [] 0 [] None) }
     {
-        let Ok(source) = str::from_utf8(source) else {
-            return Err(CompileStop::NoScript(String::from_str(
-                alloc,
-                "script: error: the text is not UTF-8\n",
-            )?));
-        };
-        let options = Options {
-            strict_variables: false,
-            debug_id: 0,
-        };
-        let verified = match compile(alloc, source, &options) {
-            Ok(verified) => verified,
-            Err(error) => return Err(stop_of(alloc, source, error)),
-        };
-        match Session::of(alloc, verified, bounds) {
-            Ok(session) => Ok(session),
-            // A compiled program has no constant of another host.
-            Err(_) => Err(CompileStop::OutOfMemory),
+        let source = read_text(alloc, SCRIPT, source)?;
+        match compile(alloc, source, &OPTIONS) {
+            Ok(verified) => Session::of_compiled(alloc, verified, bounds),
+            Err(error) => Err(stop_of(alloc, SCRIPT, source, error)),
+        }
+    }
+
+    /// Compiles a source text, and the modules of a table that it imports. It takes time as [`compile_with`] does, and linear in the
+    /// length of the table's names and texts, n log n in the length of the names.
+    ///
+    /// # Errors
+    /// [`CompileStop::NoScript`], tested in this order: the bytes of the script aren't UTF-8; a name or a text of the table isn't,
+    /// or two of its modules have the same name; the script or a module that it imports has an error, such as the import of a
+    /// module that isn't in the table. The report of an error in a module begins with the name of the module.
+    pub fn compile_modules(
+        alloc: Global,
+        source: &[u8],
+        modules: &[CModuleText<'_>],
+        bounds: Bounds,
+    ) -> Result<Session, CompileStop>
+        ensures accepted { IfOk result (λ made. IsAccepted (input_of made.state.program)) }
+        ensures new { IfOk result (λ made. made
+            ≡ shown_of (idle made.state.program bounds.calls bounds.runs) None [] [] 0 [] None) }
+    {
+        let source = read_text(alloc, SCRIPT, source)?;
+        let mut table = ModuleTable::new(alloc, modules)?;
+        match compile_with(alloc, source, &OPTIONS, &mut table) {
+            Ok(verified) => Session::of_compiled(alloc, verified, bounds),
+            Err(stopped) => Err(stop_of_link(alloc, source, stopped)),
         }
     }
 

@@ -1,7 +1,13 @@
-//! A host of scripts: compiles a stranger's script within bounds, gives it three functions, runs it, and calls its `score` three
-//! times: engine FILE. An error is shown with its line.
+//! A host of scripts: compiles a stranger's script within bounds, gives it a module and three functions, runs it, and calls its
+//! `score` three times: engine FILE. An error is shown with its line.
 use grain::engine::{Bounds, Engine};
 use std::error::Error;
+
+/// What scripts may import.
+const MODULES: [(&str, &str); 1] = [(
+    "levels",
+    "fn level(score) { if score < 5 { 1 } else { 2 } }",
+)];
 
 fn engine() -> Engine {
     let bounds = Bounds::new()
@@ -21,7 +27,7 @@ fn engine() -> Engine {
 fn main() -> Result<(), Box<dyn Error>> {
     let path = std::env::args().nth(1).ok_or("engine FILE")?;
     let engine = engine();
-    let script = engine.compile(&std::fs::read_to_string(path)?)?;
+    let script = engine.compile_with_modules(&std::fs::read_to_string(path)?, MODULES)?;
     let mut state = engine.state(&script)?;
     println!("{}", state.run::<i64>()?);
     for n in 1..=3 {

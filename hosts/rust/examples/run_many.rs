@@ -9,6 +9,9 @@ use std::io::{self, BufWriter, Read, Write};
 /// How many calls `grain run` lets wait. It bounds neither output nor memory, and its other bounds are the usual ones.
 const CALLS: usize = 10_000;
 
+/// There are none, as in the folder of the script that `grain run` is given: an import is the same error.
+const NO_MODULES: [(&str, &str); 0] = [];
+
 fn engine(turns: u64) -> Engine {
     let bounds = Bounds::new()
         .turns(turns)
@@ -39,7 +42,8 @@ impl Ran {
 }
 
 fn run(engine: &Engine, text: &str) -> Result<Ran, Box<dyn Error>> {
-    let mut state = engine.state(&engine.compile(text)?)?;
+    let script = engine.compile_with_modules(text, NO_MODULES)?;
+    let mut state = engine.state(&script)?;
     let value = state.run::<Value>();
     let mut output = state.take_printed();
     let error = match value {

@@ -479,6 +479,14 @@ pub(crate) struct Bounds {
 }
 
 #[repr(C)]
+pub(crate) struct Module {
+    pub(crate) name: *const c_char,
+    pub(crate) name_len: usize,
+    pub(crate) source: *const c_char,
+    pub(crate) source_len: usize,
+}
+
+#[repr(C)]
 pub(crate) struct Values {
     pub(crate) rows: *const Value,
     pub(crate) rows_len: usize,
@@ -530,6 +538,16 @@ extern "C" {
         state: *mut *mut State,
         source: *const c_char,
         source_len: usize,
+        bounds: *const Bounds,
+        text: *mut c_char,
+        text_size: usize,
+    ) -> u32;
+    pub(crate) fn grain_state_compile_modules(
+        state: *mut *mut State,
+        source: *const c_char,
+        source_len: usize,
+        modules: *const Module,
+        modules_len: usize,
         bounds: *const Bounds,
         text: *mut c_char,
         text_size: usize,

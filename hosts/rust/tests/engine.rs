@@ -4,6 +4,7 @@ use grain::engine::{
     State, Value, WrongType,
 };
 use grain::{FileError, Limits};
+use std::collections::HashMap;
 use std::error::Error;
 use std::panic::{catch_unwind, AssertUnwindSafe};
 use std::thread;
@@ -65,6 +66,102 @@ fn errors_and_faults_have_lines() {
             && fault.text().contains("called from main:4:1"),
         "{fault}"
     );
+}
+
+const SHAPES: &str = "
+import \"numbers\" as n;
+export const UNIT = 1;
+fn area(a, b) { n::least(a * b, 20) }
+fn double_area(a, b) { double(a * b) }
+fn failing() { 1 / 0 }";
+const NUMBERS: &str = "fn least(x, y) { if x < y { x } else { y } }";
+
+#[test]
+fn scripts_import_modules_of_the_host() {
+    let engine = engine();
+    let text = "import \"shapes\" as s; fn f(n) { s::area(n, 3) + s::UNIT } f(2)";
+    let listed = [("shapes", SHAPES), ("numbers", NUMBERS), ("unused", "a b")];
+    let script = engine.compile_with_modules(text, listed).unwrap();
+    let mut state = engine.state(&script).unwrap();
+    assert_eq!(state.run::<i64>(), Ok(7));
+    assert_eq!(state.call::<i64>("f", (9,)), Ok(21));
+    // A map has the same modules, and the program is the same. So is that of its file, which needs none.
+    let owned: HashMap<String, String> = listed
+        .iter()
+        .map(|(name, text)| (name.to_string(), text.to_string()))
+        .collect();
+    assert_eq!(
+        engine.compile_with_modules(text, &owned).as_ref(),
+        Ok(&script)
+    );
+    let loaded = engine.load(script.as_bytes()).unwrap();
+    assert_eq!(engine.state(&loaded).unwrap().run::<i64>(), Ok(7));
+    // Modules call functions of the host, and their faults name their functions.
+    let text = "import \"shapes\" as s;\nprint(s::double_area(2, 3));\ns::failing()";
+    let script = engine.compile_with_modules(text, owned).unwrap();
+    let mut state = engine.state(&script).unwrap();
+    let Err(RunError::Fault(fault)) = state.run::<i64>() else {
+        panic!("returned");
+    };
+    assert_eq!(state.take_printed(), "12\n");
+    let calls = "\n  in shapes::failing\n  called from main:3:1";
+    assert!(fault.text().ends_with(calls), "{fault}");
+}
+
+/// The report of a script that imports `a`, with these modules.
+fn report(modules: &[(&str, &str)]) -> String {
+    let text = "import \"a\" as a; a::f()";
+    match Engine::new().compile_with_modules(text, modules.iter().copied()) {
+        Err(CompileError::Script(report)) => report,
+        other => panic!("{other:?}"),
+    }
+}
+
+#[test]
+fn errors_of_modules_name_the_module() {
+    let unknown = "error: there is no module of this name";
+    let calls = "\nimport \"b\" as b;\nfn f() { b::g() }";
+    let cases: [(&[(&str, &str)], &str); 7] = [
+        (&[], &format!("script:1:8: {unknown}\n")),
+        (&[("b", "")], &format!("script:1:8: {unknown}\n")),
+        (
+            &[("a", calls)],
+            &format!("a:2:8: {unknown}\n  import \"b\" as b;\n         ^\n"),
+        ),
+        (
+            &[("b", "fn g() {\n let x = ;"), ("a", calls)],
+            "b:2:10: error: an expression is expected here\n",
+        ),
+        (
+            &[("b", "fn h() { }"), ("a", calls)],
+            "a:3:10: error: the module has no public function",
+        ),
+        (
+            &[("a", "fn f() { 1 }"), ("b", ""), ("a", "")],
+            "a: error: two modules have this name\n",
+        ),
+        (
+            &[("a\nb", ""), ("a\nb", "")],
+            "a\\u{a}b: error: two modules have this name\n",
+        ),
+    ];
+    for (modules, wanted) in cases {
+        let report = report(modules);
+        assert!(report.starts_with(wanted), "{report} is not {wanted}");
+    }
+}
+
+/// Names of strangers: many of them, which differ only at their ends.
+#[test]
+fn many_modules_are_found_by_their_names() {
+    let names: Vec<String> = (0..20_000)
+        .map(|n| format!("{}{n}", "x".repeat(100)))
+        .collect();
+    let modules = names.iter().map(|name| (name, "fn f() { 5 }"));
+    let text = format!("import \"{}\" as m; m::f()", names[12_345]);
+    let engine = Engine::new();
+    let script = engine.compile_with_modules(&text, modules).unwrap();
+    assert_eq!(engine.state(&script).unwrap().run::<i64>(), Ok(5));
 }
 
 /// Variables of the top level can be read when its run has ended, and until the next one begins.
@@ -303,6 +400,9 @@ fn bounds_and_an_interrupt_are_values() {
     let mut engine = Engine::new();
     engine.bounds(Bounds::new().value_depth(257));
     assert_eq!(engine.compile("1"), Err(CompileError::BadLimit));
+    let modules = [("a", "")];
+    let compiled = engine.compile_with_modules("1", modules);
+    assert_eq!(compiled, Err(CompileError::BadLimit));
 }
 
 #[test]
@@ -327,6 +427,8 @@ fn a_state_takes_no_more_memory_than_its_bounds_say() {
     assert!(0 < before && state.memory() < before + 4096);
     engine.bounds(Bounds::new().memory(1000));
     assert_eq!(engine.compile(text), Err(CompileError::OutOfMemory));
+    let compiled = engine.compile_with_modules("1", vec![("a", ""); 100]);
+    assert_eq!(compiled, Err(CompileError::OutOfMemory));
 }
 
 #[test]

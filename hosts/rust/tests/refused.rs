@@ -690,6 +690,22 @@ fn an_engine_answers_an_error() {
         Err(error) => panic!("{error}"),
     });
     assert!(taken > 50, "{taken}");
+    let modules = || {
+        [
+            ("a", "import \"b\" as b; fn f(n) { b::g(n) }"),
+            ("b", "fn g(n) { [n] }"),
+        ]
+    };
+    let text = "import \"a\" as a; a::f(1)";
+    let whole = engine.compile_with_modules(text, modules()).unwrap();
+    let taken = refuse_library("Engine::compile_with_modules", || {
+        match engine.compile_with_modules(text, modules()) {
+            Ok(again) => again != whole,
+            Err(CompileError::OutOfMemory) => true,
+            Err(error) => panic!("{error}"),
+        }
+    });
+    assert!(taken > 50, "{taken}");
     let taken = refuse_library("Engine::load", || match engine.load(script.as_bytes()) {
         Ok(again) => again != script,
         Err(LoadError::OutOfMemory) => true,

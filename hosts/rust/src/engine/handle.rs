@@ -98,18 +98,54 @@ impl Handle {
     }
 
     pub(crate) fn compile(text: &str, bounds: &Bounds) -> Result<Handle, CompileError> {
-        let (mut state, mut report) = (ptr::null_mut(), vec![0u8; REPORT_SIZE]);
-        // SAFETY: the text and the report are as long as is said, and what is written is valid.
-        let status = unsafe {
+        // SAFETY: the text is as long as is said; the state and the report are valid.
+        Handle::compiled(|state, report, report_size| unsafe {
             raw::grain_state_compile(
-                &mut state,
+                state,
                 text.as_ptr().cast(),
                 text.len(),
                 &bounds.raw(),
-                report.as_mut_ptr().cast(),
-                report.len(),
+                report,
+                report_size,
             )
-        };
+        })
+    }
+
+    pub(crate) fn compile_modules(
+        text: &str,
+        modules: &[(&str, &str)],
+        bounds: &Bounds,
+    ) -> Result<Handle, CompileError> {
+        let modules: Vec<raw::Module> = modules
+            .iter()
+            .map(|(name, source)| raw::Module {
+                name: name.as_ptr().cast(),
+                name_len: name.len(),
+                source: source.as_ptr().cast(),
+                source_len: source.len(),
+            })
+            .collect();
+        // SAFETY: the list and all texts are as long as is said; the state and the report are valid.
+        Handle::compiled(|state, report, report_size| unsafe {
+            raw::grain_state_compile_modules(
+                state,
+                text.as_ptr().cast(),
+                text.len(),
+                modules.as_ptr(),
+                modules.len(),
+                &bounds.raw(),
+                report,
+                report_size,
+            )
+        })
+    }
+
+    /// What a call compiles. It writes a state, or a report as far as there is room.
+    fn compiled(
+        call: impl FnOnce(*mut *mut raw::State, *mut c_char, usize) -> u32,
+    ) -> Result<Handle, CompileError> {
+        let (mut state, mut report) = (ptr::null_mut(), vec![0u8; REPORT_SIZE]);
+        let status = call(&mut state, report.as_mut_ptr().cast(), report.len());
         match (status, NonNull::new(state)) {
             (raw::ACCEPTED, Some(state)) => Ok(Handle::new(state)),
             (raw::NO_SCRIPT, _) => {

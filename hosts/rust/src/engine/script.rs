@@ -230,16 +230,46 @@ impl Engine {
         self.interrupt.clone()
     }
 
-    /// Compiles a text. What the compiler makes is accepted.
+    /// Compiles a text, which can't import modules. What the compiler makes is accepted.
     ///
     /// # Errors
     /// The text has an error.
     pub fn compile(&self, text: &str) -> Result<Script, CompileError> {
-        let handle = Handle::compile(text, &self.bounds)?;
-        match handle.file() {
-            Some(file) => Ok(Script::new(file, handle)),
-            None => Err(CompileError::OutOfMemory),
-        }
+        compiled(Handle::compile(text, &self.bounds)?)
+    }
+
+    /// Compiles a text, and the modules that it imports, to one program. The modules are pairs of a name and a text, as of an array or
+    /// a [`HashMap`](std::collections::HashMap).
+    ///
+    /// ```
+    /// use grain::engine::Engine;
+    ///
+    /// let modules = [("shapes", "export const UNIT = 1; fn area(a, b) { a * b }")];
+    /// let text = "import \"shapes\" as s; s::area(2, 3) + s::UNIT";
+    /// let engine = Engine::new();
+    /// let script = engine.compile_with_modules(text, modules)?;
+    /// assert_eq!(engine.state(&script)?.run::<i64>()?, 7);
+    /// # Ok::<(), Box<dyn std::error::Error>>(())
+    /// ```
+    ///
+    /// # Errors
+    /// The text or a module that is imported has an error, such as the import of a module that isn't among these; or two of them
+    /// have the same name. A report of an error in a module begins with its name.
+    pub fn compile_with_modules<N, T>(
+        &self,
+        text: &str,
+        modules: impl IntoIterator<Item = (N, T)>,
+    ) -> Result<Script, CompileError>
+    where
+        N: AsRef<str>,
+        T: AsRef<str>,
+    {
+        let modules: Vec<(N, T)> = modules.into_iter().collect();
+        let list: Vec<(&str, &str)> = modules
+            .iter()
+            .map(|(name, text)| (name.as_ref(), text.as_ref()))
+            .collect();
+        compiled(Handle::compile_modules(text, &list, &self.bounds)?)
     }
 
     /// Reads a program file and verifies it, within [`Limits::new`].
@@ -267,6 +297,14 @@ impl Engine {
     pub fn eval<T: FromValue>(&self, text: &str) -> Result<T, Box<dyn Error>> {
         let script = self.compile(text)?;
         Ok(self.state(&script)?.run()?)
+    }
+}
+
+/// The script that was compiled into a state.
+fn compiled(handle: Handle) -> Result<Script, CompileError> {
+    match handle.file() {
+        Some(file) => Ok(Script::new(file, handle)),
+        None => Err(CompileError::OutOfMemory),
     }
 }
 
