@@ -57,3 +57,22 @@ print('Z'.to_lower());
 //--- the value of the script
 "abc"[1]
 //= b
+//--- letters in place
+let c = 'a';
+c.make_upper();
+print(c);
+c.make_lower();
+print(c);
+let m = #{ c: 'é' };
+m.c.make_upper();
+print(m.c);
+//= A
+//= a
+//= É
+//--- a character whose capital letter is several
+print(['ß'.to_upper(), 'é'.to_upper(), '1'.to_upper(), 'É'.to_lower()]);
+let c = 'ß';
+make_upper(c);
+print(c);
+//= ['ß', 'É', '1', 'é']
+//= ß

@@ -212,11 +212,11 @@ a.push(2
 //@ 3:1
 //--- a name of the compiler's own
 let anon$1 = 1;
-//! `$`
+//! '$'
 //@ 1:9
 //--- a method of such a name
 [1].len$();
-//! `$`
+//! '$'
 //@ 1:8
 //--- a number one above 64 bits
 18446744073709551616

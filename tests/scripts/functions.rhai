@@ -120,3 +120,15 @@ for n in 1..=15 { line += word(n) + " "; }
 line.trim();
 print(line);
 //= 1 2 Fizz 4 Buzz Fizz 7 8 Fizz Buzz 11 Fizz 13 14 FizzBuzz
+
+//--- functions that are absent
+for name in ["sleep", "timestamp", "tag", "set_tag", "get_fn_metadata_list", "parse_decimal", "to_decimal"] {
+    try { Fn(name).call("1"); } catch (e) { if e.message.contains(name) { print(name); } }
+}
+//= sleep
+//= timestamp
+//= tag
+//= set_tag
+//= get_fn_metadata_list
+//= parse_decimal
+//= to_decimal

@@ -169,3 +169,19 @@ print(m.x);
 //= 4
 //= 6
 //= 9
+//--- each bit
+let x = 0b1010;
+print([5.bits(0, 4), x.bits(1, 3), x.bits(1..=3), x.bits(1..3), x.bits(3, 0), x.bits(5..2)]);
+print([(-1).bits(62), x.bits(-2), bits(x, 60, 99).len, x.bits().len, (-1).bits[63]]);
+let n = 0;
+for bit in x.bits { if bit { n += 1; } }
+print(n);
+//= [[true, false, true, false], [true, false, true], [true, false, true], [true, false], [], []]
+//= [[true, true], [false, false], 4, 64, true]
+//= 2
+//--- no bits lie past the highest
+5.bits(64)
+//! Index out of bounds: 64 (length 64)
+//--- no bits lie before the lowest
+5.bits(-65, 1)
+//! Index out of bounds: -65 (length 64)

@@ -31,3 +31,36 @@ print(sum);
 range(1, 10, 0)
 //! a step that isn't zero
 //@ 1:1
+//--- steps of a range
+print(range(0..10, 3));
+print(range(10..0, -4));
+print([range(0..10, -1), range(3..3, 1)]);
+//= [0, 3, 6, 9]
+//= [10, 6, 2]
+//= [[], []]
+//--- floats with a step
+print(range(0.0, 1.0, 0.25));
+print(range(1.0, 0.0, -0.5));
+print([range(0.0, 1.0, -0.5), range(1.0, 1.0, 0.5), range(0.0 / 0.0, 1.0, 1.0)]);
+//= [0.0, 0.25, 0.5, 0.75]
+//= [1.0, 0.5]
+//= [[], [], []]
+//--- a step of zero between floats
+range(0.0, 1.0, 0.0)
+//! a step that isn't zero
+//--- the largest steps
+print(range(-9223372036854775807, 9223372036854775807, 9223372036854775807));
+print(range(9223372036854775807, 0, 1));
+print(range(9223372036854775806, 9223372036854775807, 9223372036854775807));
+//= [-9223372036854775807, 0]
+//= []
+//= [9223372036854775806]
+//--- steps have a limit
+range(0, 9223372036854775807, 1)
+//! Size of data too large
+//--- steps of floats have a limit
+range(0.0, 1e300, 1.0)
+//! Size of data too large
+//--- an endless range of floats
+range(0.0, 1.0 / 0.0, 1e300)
+//! Size of data too large

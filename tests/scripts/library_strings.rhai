@@ -306,3 +306,26 @@ print(s);
 let s = "abc";
 s[1] += "x";
 //! Data type incorrect: expecting a character
+//--- pop several characters
+let s = "héllo";
+print([s.pop(2), s]);
+print([s.pop(0), s.pop(-1), s]);
+print([s.pop(9), s]);
+print([s.pop(1), "".pop(9223372036854775807)]);
+//= ["lo", "hél"]
+//= ["", "", "hél"]
+//= ["hél", ""]
+//= ["", ""]
+//--- letters that change their number, and the last sigma
+print(["Straße".to_upper(), "ΟΔΟΣ".to_lower()]);
+let s = "ß";
+s.make_upper();
+print(s);
+//= ["STRASSE", "οδος"]
+//= SS
+//--- append bytes
+let s = "a";
+s.append("bé".to_blob());
+s.append(blob());
+print(s);
+//= abé

@@ -3,22 +3,43 @@
 use crate::function::Function;
 use crate::spans::{Span, start_and_count};
 use rhai_values::{Cause, Interval, Value, place_of};
+use std::alloc::Global;
 
 /// How many bits an integer has.
 const BITS: usize = 64;
 
 pub(crate) fn call(
+    alloc: Global,
     function: Function,
     number: &mut i64,
     arguments: &[Value],
 ) -> Result<Option<Value>, Cause> {
     match function {
+        Function::Bits => each_bit(alloc, *number, arguments),
         Function::GetBit => got_bit(*number, arguments),
         Function::GetBits => got_bits(*number, arguments),
         Function::SetBit => set_bit(number, arguments),
         Function::SetBits => set_bits(number, arguments),
         _ => Ok(None),
     }
+}
+
+/// An array of the bits as truth values: of all, of those from an index on, or of a part.
+fn each_bit(alloc: Global, number: i64, arguments: &[Value]) -> Result<Option<Value>, Cause> {
+    let place = match arguments {
+        [] => Some((0, i64::MAX)),
+        [Value::Int(start)] => Some((*start, i64::MAX)),
+        _ => start_and_count(arguments),
+    };
+    let Some((start, count)) = place else {
+        return Ok(None);
+    };
+    let span = counted(start, count)?;
+    let mut bits = Vec::new(alloc);
+    for place in span.first..span.end {
+        bits.push(Value::Bool(number.wrapping_shr(distance(place)) & 1 == 1))?;
+    }
+    Ok(Some(Value::array(alloc, bits)?))
 }
 
 fn got_bit(number: i64, arguments: &[Value]) -> Result<Option<Value>, Cause> {

@@ -1,32 +1,37 @@
 //! Functions of blobs, which are bytes in order. For a script a byte is an integer from 0 to 255, and an integer that becomes a
 //! byte keeps its lowest 8 bits.
 
+use crate::blob_parts::{self, part};
 use crate::function::Function;
 use crate::spans::Span;
+use rhai_texts::bytes::{append, byte_of};
 use rhai_texts::places::{count_of, number_of, start_of};
 use rhai_values::{Cause, SizeLimits, Value, place_of};
 use std::alloc::Global;
 use std::rc::Rc;
 
-/// The bits of an integer that a byte keeps.
-const BYTE: i64 = 0xff;
-
 pub(crate) fn call(
     alloc: Global,
+    limits: SizeLimits,
     function: Function,
     bytes: &mut Rc<Vec<u8>>,
     arguments: &[Value],
 ) -> Result<Option<Value>, Cause> {
-    match (function, arguments) {
-        (Function::Extract, arguments) => extracted(alloc, bytes, arguments),
-        (function, []) => alone(alloc, function, bytes),
-        (function, [Value::Int(number)]) => with_number(alloc, function, bytes, *number),
-        (Function::Append, [Value::Blob(other)]) => {
-            Rc::make_mut(bytes)?.extend_from_slice(other.as_slice())?;
-            Ok(Some(Value::Unit))
+    if let Some(value) = blob_parts::call(alloc, function, bytes, arguments)? {
+        return Ok(Some(value));
+    }
+    match arguments {
+        [] => alone(alloc, function, bytes),
+        [value] if function == Function::Append => {
+            if append(alloc, bytes, value)? {
+                Ok(Some(Value::Unit))
+            } else {
+                Ok(None)
+            }
         }
-        (function, [Value::Int(index), Value::Int(byte)]) => {
-            with_place(function, bytes, *index, byte_of(*byte))
+        [Value::Int(number)] => with_number(alloc, function, bytes, *number),
+        [Value::Int(number), Value::Int(byte)] => {
+            with_place(limits, function, bytes, *number, byte_of(*byte))
         }
         _ => Ok(None),
     }
@@ -102,8 +107,9 @@ fn with_number(
             Value::Unit
         }
         Function::Chop => {
-            let len = bytes.len();
-            *bytes = part(alloc, bytes, len.saturating_sub(count_of(number)), len)?;
+            let end = bytes.len();
+            let first = end.saturating_sub(count_of(number));
+            *bytes = part(alloc, bytes, Span { first, end })?;
             Value::Unit
         }
         _ => return Ok(None),
@@ -112,6 +118,7 @@ fn with_number(
 }
 
 fn with_place(
+    limits: SizeLimits,
     function: Function,
     bytes: &mut Rc<Vec<u8>>,
     index: i64,
@@ -128,23 +135,23 @@ fn with_place(
             Rc::make_mut(bytes)?.insert(place, byte)?;
             Ok(Some(Value::Unit))
         }
+        Function::Pad => {
+            padded(limits, bytes, count_of(index), byte)?;
+            Ok(Some(Value::Unit))
+        }
         _ => Ok(None),
     }
 }
 
-/// A copy of a part.
-fn extracted(alloc: Global, bytes: &[u8], arguments: &[Value]) -> Result<Option<Value>, Cause> {
-    let Some(span) = Span::of_or_rest(bytes.len(), arguments) else {
-        return Ok(None);
-    };
-    Ok(Some(Value::Blob(part(alloc, bytes, span.first, span.end)?)))
-}
-
-/// Copies of the bytes from one place up to another.
-fn part(alloc: Global, bytes: &[u8], first: usize, end: usize) -> Result<Rc<Vec<u8>>, Cause> {
-    let mut copies = Vec::new(alloc);
-    copies.extend_from_slice(bytes.get(first..end).unwrap_or(&[]))?;
-    Ok(Rc::new(alloc, copies)?)
+/// Appends a byte until there are as many bytes.
+fn padded(limits: SizeLimits, bytes: &mut Rc<Vec<u8>>, len: usize, byte: u8) -> Result<(), Cause> {
+    if len > limits.size {
+        return Err(Cause::TooLarge);
+    }
+    if len > bytes.len() {
+        Rc::make_mut(bytes)?.resize(len, byte)?;
+    }
+    Ok(())
 }
 
 /// Takes the byte at a place out; 0 if there is none.
@@ -196,9 +203,4 @@ fn set(bytes: &mut Rc<Vec<u8>>, index: i64, byte: u8) -> Result<bool, Cause> {
         }
         None => Ok(false),
     }
-}
-
-/// The lowest bits of an integer.
-fn byte_of(number: i64) -> u8 {
-    u8::try_from(number & BYTE).unwrap_or(0)
 }

@@ -1,7 +1,7 @@
 //! Calls by function.
 
 use crate::function::Function;
-use crate::{arrays, blobs, floats, maps, numbers, scalars, texts};
+use crate::{arrays, blobs, floats, maps, numbers, scalars, steps, texts};
 use rhai_json::text_of;
 use rhai_values::{Cause, SizeLimits, Value};
 use std::alloc::Global;
@@ -27,11 +27,11 @@ pub fn call(
     match receiver {
         Value::Text(text) => texts::call(alloc, limits, function, text, arguments),
         Value::Array(list) => arrays::call(alloc, limits, function, list, arguments),
-        Value::Blob(bytes) => blobs::call(alloc, function, bytes, arguments),
+        Value::Blob(bytes) => blobs::call(alloc, limits, function, bytes, arguments),
         Value::Map(object) => maps::call(alloc, function, object, arguments),
         Value::Int(number) => numbers::call(alloc, function, number, arguments),
         Value::Float(number) => floats::call(alloc, function, *number, arguments),
-        Value::Char(character) => Ok(scalars::of_character(function, *character, arguments)),
+        Value::Char(character) => Ok(scalars::of_character(function, character, arguments)),
         Value::Range(range) => Ok(scalars::of_range(function, range, arguments)),
         Value::Pointer(pointer) => scalars::of_pointer(alloc, function, pointer, arguments),
         _ => Ok(None),
@@ -92,46 +92,27 @@ fn blob(
     }
 }
 
-/// The integers from the receiver up to another one: a range, or with a step an array.
+/// The numbers from the receiver up to another one: a range of integers, or with a step an array.
 fn range(
     alloc: Global,
     limits: SizeLimits,
     receiver: &Value,
     bounds: &[Value],
 ) -> Result<Option<Value>, Cause> {
-    match (receiver, bounds) {
-        (Value::Int(from), [Value::Int(to)]) => Ok(Some(Value::range(alloc, *from, *to, false)?)),
+    let items = match (receiver, bounds) {
+        (Value::Int(from), [Value::Int(to)]) => {
+            return Ok(Some(Value::range(alloc, *from, *to, false)?));
+        }
         (Value::Int(from), [Value::Int(to), Value::Int(step)]) => {
-            let steps = steps(alloc, limits, (*from, *to), *step)?;
-            Ok(Some(Value::array(alloc, steps)?))
+            steps::of_integers(alloc, limits, (*from, *to), *step)?
         }
-        _ => Ok(None),
-    }
-}
-
-/// The integers from one to before another, by a step that may be below 0.
-fn steps(
-    alloc: Global,
-    limits: SizeLimits,
-    bounds: (i64, i64),
-    step: i64,
-) -> Result<Vec<Value>, Cause> {
-    let (from, to) = bounds;
-    if step == 0 {
-        return Err(Cause::WrongType("a step that isn't zero"));
-    }
-    let mut items = Vec::new(alloc);
-    let mut next = Some(from);
-    for _ in 0..limits.size {
-        let Some(number) = next else {
-            return Ok(items);
-        };
-        let is_past = if step > 0 { number >= to } else { number <= to };
-        if is_past {
-            return Ok(items);
+        (Value::Range(range), [Value::Int(step)]) if !range.inclusive => {
+            steps::of_integers(alloc, limits, (range.from, range.to), *step)?
         }
-        items.push(Value::Int(number))?;
-        next = number.checked_add(step);
-    }
-    Err(Cause::TooLarge)
+        (Value::Float(from), [Value::Float(to), Value::Float(step)]) => {
+            steps::of_floats(alloc, limits, (*from, *to), *step)?
+        }
+        _ => return Ok(None),
+    };
+    Ok(Some(Value::array(alloc, items)?))
 }

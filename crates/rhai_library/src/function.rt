@@ -8,6 +8,7 @@ pub enum Function {
     Abs,
     Append,
     AsString,
+    Bits,
     Blob,
     Bytes,
     Chars,
@@ -50,9 +51,13 @@ pub enum Function {
     Order,
     OrderDesc,
     Pad,
+    ParseBeFloat,
+    ParseBeInt,
     ParseFloat,
     ParseInt,
     ParseJson,
+    ParseLeFloat,
+    ParseLeInt,
     Pop,
     Push,
     Range,
@@ -92,12 +97,17 @@ pub enum Function {
     Truncate,
     TypeOf,
     Values,
+    WriteAscii,
+    WriteBe,
+    WriteLe,
+    WriteUtf8,
 }
 
 const NAMES: &'static [(&'static str, Function)] = &[
     ("abs", Function::Abs),
     ("append", Function::Append),
     ("as_string", Function::AsString),
+    ("bits", Function::Bits),
     ("blob", Function::Blob),
     ("bytes", Function::Bytes),
     ("chars", Function::Chars),
@@ -138,9 +148,13 @@ const NAMES: &'static [(&'static str, Function)] = &[
     ("order", Function::Order),
     ("order_desc", Function::OrderDesc),
     ("pad", Function::Pad),
+    ("parse_be_float", Function::ParseBeFloat),
+    ("parse_be_int", Function::ParseBeInt),
     ("parse_float", Function::ParseFloat),
     ("parse_int", Function::ParseInt),
     ("parse_json", Function::ParseJson),
+    ("parse_le_float", Function::ParseLeFloat),
+    ("parse_le_int", Function::ParseLeInt),
     ("pop", Function::Pop),
     ("push", Function::Push),
     ("range", Function::Range),
@@ -180,6 +194,10 @@ const NAMES: &'static [(&'static str, Function)] = &[
     ("truncate", Function::Truncate),
     ("type_of", Function::TypeOf),
     ("values", Function::Values),
+    ("write_ascii", Function::WriteAscii),
+    ("write_be", Function::WriteBe),
+    ("write_le", Function::WriteLe),
+    ("write_utf8", Function::WriteUtf8),
 ];
 
 impl Function {
@@ -203,6 +221,7 @@ impl Function {
         match self {
             Function::Math(function) => function.is_property(),
             Function::Abs
+            | Function::Bits
             | Function::Bytes
             | Function::Chars
             | Function::End

@@ -1,4 +1,4 @@
-//! The functions that every script has: of numbers, characters, texts, arrays, object maps, ranges and function
+//! The functions that every script has: of numbers, characters, texts, arrays, blobs, object maps, ranges and function
 //! pointers. docs/LANGUAGE.md lists them.
 //!
 //! A function is found by its name once, when a program is prepared; a call is by [`Callee`] alone.
@@ -6,6 +6,7 @@
 
 mod arrays;
 mod bits;
+mod blob_parts;
 mod blobs;
 mod callee;
 mod calls;
@@ -18,6 +19,7 @@ mod parts;
 mod scalars;
 mod sorting;
 mod spans;
+mod steps;
 mod text_parts;
 mod texts;
 

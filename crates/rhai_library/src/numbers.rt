@@ -13,7 +13,7 @@ pub(crate) fn call(
     number: &mut i64,
     arguments: &[Value],
 ) -> Result<Option<Value>, Cause> {
-    if let Some(value) = bits::call(function, number, arguments)? {
+    if let Some(value) = bits::call(alloc, function, number, arguments)? {
         return Ok(Some(value));
     }
     match arguments {

@@ -9,21 +9,45 @@ const CLOSURE: &'static str = "anon$";
 
 pub(crate) fn of_character(
     function: Function,
-    character: char,
+    character: &mut char,
     arguments: &[Value],
 ) -> Option<Value> {
-    match (function, arguments) {
-        (Function::ToInt, []) => Some(Value::Int(i64::from(u32::from(character)))),
-        (Function::ToUpper, []) => Some(changed(character, character.to_uppercase().next())),
-        (Function::ToLower, []) => Some(changed(character, character.to_lowercase().next())),
-        (Function::Min, [Value::Char(other)]) => Some(Value::Char(character.min(*other))),
-        (Function::Max, [Value::Char(other)]) => Some(Value::Char(character.max(*other))),
-        _ => None,
+    let old = *character;
+    let value = match (function, arguments) {
+        (Function::ToInt, []) => Value::Int(i64::from(u32::from(old))),
+        (Function::ToUpper, []) => Value::Char(upper(old)),
+        (Function::ToLower, []) => Value::Char(lower(old)),
+        (Function::Min, [Value::Char(other)]) => Value::Char(old.min(*other)),
+        (Function::Max, [Value::Char(other)]) => Value::Char(old.max(*other)),
+        (Function::MakeUpper, []) => {
+            *character = upper(old);
+            Value::Unit
+        }
+        (Function::MakeLower, []) => {
+            *character = lower(old);
+            Value::Unit
+        }
+        _ => return None,
+    };
+    Some(value)
+}
+
+/// The capital letter of a character. If it has several, such as `ß` with `SS`, it is the character itself.
+fn upper(character: char) -> char {
+    let mut letters = character.to_uppercase();
+    match (letters.next(), letters.next()) {
+        (Some(letter), None) => letter,
+        _ => character,
     }
 }
 
-fn changed(character: char, other: Option<char>) -> Value {
-    Value::Char(other.unwrap_or(character))
+/// The small letter of a character, as [`upper`].
+fn lower(character: char) -> char {
+    let mut letters = character.to_lowercase();
+    match (letters.next(), letters.next()) {
+        (Some(letter), None) => letter,
+        _ => character,
+    }
 }
 
 pub(crate) fn of_range(function: Function, range: &Interval, arguments: &[Value]) -> Option<Value> {

@@ -55,8 +55,8 @@ fn alone(alloc: Global, function: Function, text: &mut Rc<Text>) -> Result<Optio
         Function::Len => Value::Int(number_of(text.count())),
         Function::Bytes => Value::Int(number_of(text.len())),
         Function::IsEmpty => Value::Bool(text.is_empty()),
-        Function::ToUpper => Value::text(alloc, words::upper(alloc, text.as_str())?)?,
-        Function::ToLower => Value::text(alloc, words::lower(alloc, text.as_str())?)?,
+        Function::ToUpper => Value::text(alloc, text.as_str().to_uppercase(alloc)?)?,
+        Function::ToLower => Value::text(alloc, text.as_str().to_lowercase(alloc)?)?,
         Function::Chars | Function::ToChars => Value::array(
             alloc,
             Value::characters(alloc, text.as_str())?,
@@ -80,8 +80,8 @@ fn alone(alloc: Global, function: Function, text: &mut Rc<Text>) -> Result<Optio
 /// The functions that change the text and give nothing.
 fn changed(alloc: Global, function: Function, text: &mut Rc<Text>) -> Result<Option<Value>, Cause> {
     let new = match function {
-        Function::MakeUpper => words::upper(alloc, text.as_str())?,
-        Function::MakeLower => words::lower(alloc, text.as_str())?,
+        Function::MakeUpper => text.as_str().to_uppercase(alloc)?,
+        Function::MakeLower => text.as_str().to_lowercase(alloc)?,
         Function::Trim => String::from_str(alloc, text.as_str().trim())?,
         Function::Clear => String::new(alloc),
         _ => return Ok(None),
@@ -101,7 +101,10 @@ fn with_one(
     }
     match function {
         Function::Append => {
-            let shown = format!(in alloc; "{argument}")?;
+            let shown = match argument {
+                Value::Blob(bytes) => String::from_utf8_lossy(alloc, bytes)?,
+                other => format!(in alloc; "{other}")?,
+            };
             Rc::make_mut(text)?.push_str(shown.as_str())?;
             Ok(Some(Value::Unit))
         }
@@ -154,6 +157,7 @@ fn with_number(
             *text = copied(alloc, text.part(0, count_of(number)))?;
             Value::Unit
         }
+        Function::Pop => Value::Text(popped(alloc, text, count_of(number))?),
         Function::ParseInt => return parsed(text.as_str(), number),
         Function::Append => {
             let shown = format!(in alloc; "{number}")?;
@@ -163,6 +167,17 @@ fn with_number(
         _ => return Ok(None),
     };
     Ok(Some(value))
+}
+
+/// Takes the last characters off, and gives them.
+fn popped(alloc: Global, text: &mut Rc<Text>, count: usize) -> Result<Rc<Text>, Cause> {
+    let (_, rest) = text.split_at(text.count().saturating_sub(count));
+    let popped = copied(alloc, rest)?;
+    let text = Rc::make_mut(text)?;
+    for _ in 0..popped.count() {
+        let _character = text.pop();
+    }
+    Ok(popped)
 }
 
 /// The integer that a text spells to a base from 2 to 36.

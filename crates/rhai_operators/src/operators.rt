@@ -3,6 +3,7 @@
 use crate::floats::of_floats;
 use crate::overflows::{negation_overflow, overflow};
 use grain_base::Token;
+use rhai_texts::bytes::append;
 use rhai_texts::words;
 use rhai_values::{Cause, Text, Value, are_equal, order};
 use std::alloc::Global;
@@ -200,7 +201,7 @@ fn shifted_right_by(x: i64, distance: u64) -> i64 {
     }
 }
 
-/// What `+` gives of texts, characters, arrays and object maps.
+/// What `+` gives of texts, characters, arrays, object maps and blobs.
 fn extended(
     alloc: Global,
     operator: &Token,
@@ -224,6 +225,14 @@ fn extended(
         (Value::Map(mut object), Value::Map(others)) => {
             Rc::make_mut(&mut object)?.extend(others)?;
             Ok(Some(Value::Map(object)))
+        }
+        (Value::Blob(mut bytes), other) if is_assigned || matches!(other, Value::Blob(_)) => {
+            if append(alloc, &mut bytes, other)? {
+                Ok(Some(Value::Blob(bytes)))
+            } else {
+                *left = Value::Blob(bytes);
+                Ok(None)
+            }
         }
         (first, Value::Text(text)) => {
             let text = text.as_str();
@@ -259,6 +268,7 @@ fn push_shown(alloc: Global, text: &mut Rc<Text>, value: &Value) -> Result<(), C
     match value {
         Value::Text(other) => text.push_str(other.as_str())?,
         Value::Char(character) => text.push(*character)?,
+        Value::Blob(bytes) => text.push_str(String::from_utf8_lossy(alloc, bytes)?.as_str())?,
         value => {
             let shown = format!(in alloc; "{value}")?;
             text.push_str(shown.as_str())?;

@@ -4,34 +4,6 @@ use crate::places::{number_of, start_of};
 use rhai_values::{Cause, Text, Value};
 use std::alloc::Global;
 
-/// The text in capital letters.
-///
-/// # Errors
-/// Out of memory.
-pub fn upper(alloc: Global, text: &str) -> Result<String, Cause> {
-    let mut changed = String::new(alloc);
-    for character in text.chars() {
-        for letter in character.to_uppercase() {
-            changed.push(letter)?;
-        }
-    }
-    Ok(changed)
-}
-
-/// The text in small letters.
-///
-/// # Errors
-/// Out of memory.
-pub fn lower(alloc: Global, text: &str) -> Result<String, Cause> {
-    let mut changed = String::new(alloc);
-    for character in text.chars() {
-        for letter in character.to_lowercase() {
-            changed.push(letter)?;
-        }
-    }
-    Ok(changed)
-}
-
 /// The text with another character at an index. It looks at each character once.
 ///
 /// # Errors
