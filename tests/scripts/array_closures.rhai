@@ -228,3 +228,14 @@ print(a);
 let a = [1];
 a.drain("x")
 //! Data type incorrect: expecting Fn
+
+//--- searches from an index on
+let a = [5, 3, 8, 3, 1];
+print([a.index_of(|x| x == 3, 2), a.index_of(3, 2), a.index_of(|x| x > 3, -1), a.index_of(|x| x == 1, -9), a.index_of(|x| x == 1, 9)]);
+print([a.find(|x| x > 1, 3), a.find(|x| x == 1, 1)]);
+print(a.find(|x| x > 1, -1) == ());
+print([a.find_map(|x| if x > 1 { x * 2 }, 3), a.find_map(|x, i| if x == 1 { i }, 1)]);
+//= [3, 3, -1, 4, -1]
+//= [3, 1]
+//= true
+//= [6, 4]

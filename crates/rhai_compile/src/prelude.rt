@@ -26,6 +26,9 @@ const PASSING: &'static str =
 const GIVEN: &'static str =
     "(if n == 1 { f.call(x) } else if n == 2 { f.call(x, i) } else { x.call(f) })";
 
+/// The index `s` from which items are visited, which counts from the end if it is below 0.
+const STARTING: &'static str = "if s < 0 { for _ in this { s += 1; } } ";
+
 /// As [`PASSING`], after what the items before have made.
 const REDUCING: &'static str =
     "let n = if is_def_fn(f, 1) { 1 } else if is_def_fn(f, 3) && !is_def_fn(f, 2) { 3 } else { 2 }; ";
@@ -115,6 +118,18 @@ const ENTRIES: &'static [Entry] = &[
         ],
     },
     Entry {
+        name: "find",
+        params: 2,
+        parts: &[
+            "fn array.find(f, s) { ",
+            PASSING,
+            STARTING,
+            "for (x, i) in this { if i >= s && ",
+            GIVEN,
+            " { return x; } } () }\n",
+        ],
+    },
+    Entry {
         name: "find_index",
         params: 1,
         parts: &[
@@ -137,6 +152,18 @@ const ENTRIES: &'static [Entry] = &[
         ],
     },
     Entry {
+        name: "find_map",
+        params: 2,
+        parts: &[
+            "fn array.find_map(f, s) { ",
+            PASSING,
+            STARTING,
+            "for (x, i) in this { if i >= s { let found = ",
+            GIVEN,
+            "; if found != () { return found; } } } () }\n",
+        ],
+    },
+    Entry {
         name: "for_each",
         params: 1,
         parts: &[
@@ -150,6 +177,18 @@ const ENTRIES: &'static [Entry] = &[
             "fn array.index_of(f) { if type_of(f) != `Fn` { return index_of(this, f); } ",
             PASSING,
             "for (x, i) in this { if ",
+            GIVEN,
+            " { return i; } } -1 }\n",
+        ],
+    },
+    Entry {
+        name: "index_of",
+        params: 2,
+        parts: &[
+            "fn array.index_of(f, s) { if type_of(f) != `Fn` { return index_of(this, f, s); } ",
+            PASSING,
+            STARTING,
+            "for (x, i) in this { if i >= s && ",
             GIVEN,
             " { return i; } } -1 }\n",
         ],
