@@ -1,7 +1,7 @@
 //! Values in flat form, written and read.
 
 use grain_flat_file::tags::{
-    ARRAY, BLOB, CHARACTER, FLOAT, FN_PTR, HOST, INTEGER, MAP, RANGE, SHARED, TEXT, TRUE, UNIT,
+    ARRAY, BLOB, CHARACTER, FN_PTR, HOST, INTEGER, MAP, RANGE, SHARED, TEXT, TRUE, UNIT,
 };
 use rhai_flat::{BadValue, CValue, FlatValues, MAX_DEPTH, read_values};
 use rhai_values::{Cause, Object, Pointer, SizeLimits, Value, are_equal};
@@ -102,41 +102,6 @@ fn a_map_is_its_rows(rt: HostRuntime) -> Result<(), Fail> {
     assert_eq!(rt; flat.texts(), "aéb".as_bytes());
     flat.clear();
     assert!(rt; flat.rows().is_empty() && flat.texts().is_empty());
-    Ok(())
-}
-
-/// A float is read from these bits: those that are written of it.
-fn bits_again(alloc: Global, bits: i64) -> Result<i64, Fail> {
-    let rows = [row(FLOAT, 0, bits)];
-    let values = read_values(alloc, rows.as_slice(), [].as_slice(), 1, LIMITS)?;
-    let mut flat = FlatValues::new(alloc);
-    for value in &values {
-        if flat.write(value).is_err() {
-            return Err(Fail::new("not written"));
-        }
-    }
-    match flat.rows() {
-        [
-            CValue {
-                tag: FLOAT,
-                count: 0,
-                number,
-            },
-        ] => Ok(*number),
-        _ => Err(Fail::new("no float")),
-    }
-}
-
-/// Both zeros, the smallest number, 1.5 and infinity keep their bits, and each NaN gets those of one.
-#[test]
-fn bits_of_floats_come_back(rt: HostRuntime) -> Result<(), Fail> {
-    let alloc = rt.alloc();
-    for bits in [0, i64::MIN, 1, 0x3ff8_0000_0000_0000, 0x7ff0_0000_0000_0000] {
-        assert_eq!(rt; bits_again(alloc, bits)?, bits);
-    }
-    for bits in [-1, i64::MAX, 0x7ff0_0000_0000_0001, 0x7ff8_0000_0000_0000] {
-        assert_eq!(rt; bits_again(alloc, bits)?, 0x7ff8_0000_0000_0000);
-    }
     Ok(())
 }
 
