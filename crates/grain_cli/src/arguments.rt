@@ -50,6 +50,12 @@ pub enum Argument {
         is_required: bool,
         help: &'static str,
     },
+    /// `--name VALUE`, which may be repeated.
+    Texts {
+        name: &'static str,
+        value: &'static str,
+        help: &'static str,
+    },
     /// `--name VALUE` of 64 bits.
     Number {
         name: &'static str,
@@ -84,6 +90,11 @@ fn valued<'a>(alloc: Global, name: &'a str, value: &'a str, help: &'a str) -> Ar
         .long(name)
         .value_name(value)
         .help(help)
+}
+
+/// Texts, each after the name.
+fn texts<'a>(alloc: Global, name: &'a str, value: &'a str, help: &'a str) -> Arg<'a> {
+    valued(alloc, name, value, help).action(ArgAction::Append)
 }
 
 /// A number after its name.
@@ -146,6 +157,7 @@ fn argument_of<'a>(alloc: Global, from: &Argument) -> Arg<'a> {
             is_required,
             help,
         } => valued(alloc, name, value, help).required(is_required),
+        Argument::Texts { name, value, help } => texts(alloc, name, value, help),
         Argument::Number {
             name,
             value,

@@ -114,6 +114,12 @@ fn byte_of(line: &str, column: u32) -> usize {
     }
 }
 
+/// The part of its line that is before a position. It is empty if the script has no such line.
+pub fn before(source: &str, place: Site) -> &str {
+    let line = line_of(source, place.line).unwrap_or_default();
+    line.get(..byte_of(line, place.column)).unwrap_or_default()
+}
+
 /// Appends the line of a script at a position, if it has one, and below it a caret.
 ///
 /// # Errors

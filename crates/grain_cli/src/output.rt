@@ -56,7 +56,7 @@ pub fn is_standard(path: Option<&str>) -> bool {
 }
 
 /// The folder of a path, with its slash; empty for one in the current folder.
-fn folder_of(path: &str) -> &str {
+pub fn folder_of(path: &str) -> &str {
     match path.rfind('/') {
         Some(slash) => path.get(..slash.saturating_add(1)).unwrap_or_default(),
         None => "",

@@ -7,10 +7,13 @@ mod modules;
 mod scripts;
 mod terminal;
 mod unknown;
+mod variables;
 
 use crate::command::WRONG_ARGUMENTS;
 use clap::error::ErrorKind;
 use grain_cli::failure::Failure;
+use grain_listing::push_shown;
+use std::alloc::{AllocError, Global};
 use std::process::ExitCode;
 use std::{env, io};
 
@@ -23,18 +26,33 @@ fn words(rt: &HostRuntime) -> Result<Vec<String>, Failure> {
     }
 }
 
+/// What is wrong with the arguments, in lines. Control characters of the arguments are escaped.
+fn sentence_of(alloc: Global, said: &clap::Error) -> Result<String, AllocError> {
+    let found = format!(in alloc; "{said}")?;
+    let mut text = String::new(alloc);
+    let mut is_first = true;
+    for line in found.as_str().split('\n') {
+        text.push_str(if is_first { "" } else { "\n" })?;
+        push_shown(line, &mut text)?;
+        is_first = false;
+    }
+    Ok(text)
+}
+
 /// Prints help, the version, or what is wrong with the arguments, and returns the status of the process.
 fn say(rt: &HostRuntime, said: &clap::Error) -> Result<u8, Failure> {
     if said.kind() == ErrorKind::OutOfMemory {
         return Err(Failure::OutOfMemory);
     }
+    if said.use_stderr() {
+        let text = sentence_of(rt.alloc(), said)?;
+        // If standard error can't be written either, the status alone says it.
+        let _said = eprint!(rt; "{text}");
+        return Ok(WRONG_ARGUMENTS);
+    }
     match said.print(rt) {
-        Err(error) if !said.use_stderr() => Err(Failure::of_output(error)),
-        _ => Ok(if said.use_stderr() {
-            WRONG_ARGUMENTS
-        } else {
-            0
-        }),
+        Ok(()) => Ok(0),
+        Err(error) => Err(Failure::of_output(error)),
     }
 }
 

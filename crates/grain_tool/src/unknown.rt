@@ -3,6 +3,7 @@
 use grain::pos::Site;
 use grain::{Dynamic, Op, Position, Program, Step, disassemble};
 use grain_cli::excerpt::site_of;
+use grain_listing::push_name;
 use rhai_library::Callee;
 use std::alloc::{AllocError, Global};
 use std::collections::BTreeSet;
@@ -205,9 +206,12 @@ impl<'a> Known<'a> {
 
     /// The sentence about a call of a function that isn't known.
     fn message_of(&self, alloc: Global, name: &str) -> Result<String, AllocError> {
-        let mut text = format!(in alloc;
-            "neither the script nor the library has a function `{name}`"
+        let mut text = String::from_str(
+            alloc,
+            "neither the script nor the library has a function `",
         )?;
+        push_name(name, &mut text)?;
+        text.push('`')?;
         if let Some(similar) = self.mended(alloc, name)? {
             write!(text, " (is it `{similar}`?)")?;
         }

@@ -1,7 +1,9 @@
 //! `grain check`: whether scripts can be compiled.
 
-use crate::scripts::{compiled, text_of};
+use crate::modules::INCLUDE;
+use crate::scripts::{Surroundings, compiled, text_of};
 use crate::unknown::{Warning, unknown_calls};
+use crate::variables::VARS;
 use clap::ArgMatches;
 use grain::pos::Site;
 use grain_cli::arguments::{Argument, Subcommand};
@@ -28,6 +30,8 @@ pub const SUBCOMMAND: Subcommand = Subcommand {
             letter: None,
             help: "Write a JSON object for each script, on a line of its own",
         },
+        INCLUDE,
+        VARS,
     ],
 };
 
@@ -116,6 +120,13 @@ fn object_of(alloc: Global, path: &str, found: Findings<'_>) -> Result<Vec<u8>, 
     line_of(json)
 }
 
+/// What scripts are compiled with, and how it is said what is wrong with them.
+#[derive(Clone, Copy)]
+struct Request<'a> {
+    surroundings: &'a Surroundings<'a>,
+    is_json: bool,
+}
+
 /// A script that can be compiled.
 #[derive(Drop)]
 struct Checked {
@@ -124,9 +135,13 @@ struct Checked {
 }
 
 /// Reads and compiles a script.
-fn check(rt: &HostRuntime, path: &str) -> Result<Checked, Failure> {
+fn check(
+    rt: &HostRuntime,
+    surroundings: &Surroundings<'_>,
+    path: &str,
+) -> Result<Checked, Failure> {
     let script = text_of(rt.alloc(), path, read_bytes(rt, path)?)?;
-    let verified = compiled(rt, path, script.as_str())?;
+    let verified = compiled(rt, surroundings, path, script.as_str())?;
     let warnings = unknown_calls(rt.alloc(), verified.program())?;
     Ok(Checked { script, warnings })
 }
@@ -177,15 +192,15 @@ fn refuse(rt: &HostRuntime, is_json: bool, path: &str, failure: &Failure) -> Res
 }
 
 /// Compiles a script, says what is wrong with it, and returns whether it can be compiled.
-fn visit(rt: &HostRuntime, is_json: bool, path: &str) -> Result<bool, Failure> {
-    match check(rt, path) {
+fn visit(rt: &HostRuntime, request: Request<'_>, path: &str) -> Result<bool, Failure> {
+    match check(rt, request.surroundings, path) {
         Ok(checked) => {
-            show(rt, is_json, path, &checked)?;
+            show(rt, request.is_json, path, &checked)?;
             Ok(true)
         }
         Err(Failure::OutOfMemory) => Err(Failure::OutOfMemory),
         Err(failure) => {
-            refuse(rt, is_json, path, &failure)?;
+            refuse(rt, request.is_json, path, &failure)?;
             Ok(false)
         }
     }
@@ -193,10 +208,14 @@ fn visit(rt: &HostRuntime, is_json: bool, path: &str) -> Result<bool, Failure> {
 
 /// Compiles each script, and says what is wrong. The status is 1 if one can't be compiled.
 pub fn run(rt: &HostRuntime, matches: &ArgMatches<'_>) -> Result<u8, Failure> {
-    let is_json = matches.get_flag("json");
+    let surroundings = Surroundings::of(rt, matches)?;
+    let request = Request {
+        surroundings: &surroundings,
+        is_json: matches.get_flag("json"),
+    };
     let mut status = 0u8;
     for path in matches.get_raw("FILE").unwrap_or_default() {
-        if !visit(rt, is_json, path)? {
+        if !visit(rt, request, path)? {
             status = 1;
         }
     }

@@ -1,6 +1,8 @@
 //! `grain compile`: the program file of a script.
 
-use crate::scripts::{compiled, text_of};
+use crate::modules::INCLUDE;
+use crate::scripts::{Surroundings, compiled, text_of};
+use crate::variables::VARS;
 use clap::ArgMatches;
 use grain::Program;
 use grain_cli::arguments::{Argument, FILE, Subcommand};
@@ -34,12 +36,15 @@ pub const SUBCOMMAND: Subcommand = Subcommand {
             letter: None,
             help: "Leave the name of the script out of the program",
         },
+        INCLUDE,
+        VARS,
     ],
 };
 
-/// What is made of a script, besides its program.
+/// What is made of a script, besides its program, and with what it is compiled.
 #[derive(Clone, Copy)]
-struct Wanted {
+struct Wanted<'a> {
+    surroundings: &'a Surroundings<'a>,
     /// The positions in a file of their own.
     sidecar: bool,
     /// No positions in the program.
@@ -57,10 +62,10 @@ fn strip(alloc: Global, path: &str, program: &mut Program) -> Result<Vec<u8>, Fa
 }
 
 /// The program of a script, with the name of the script if the arguments say so and it has one.
-fn program_of(rt: &HostRuntime, path: &str, with_source: bool) -> Result<Program, Failure> {
+fn program_of(rt: &HostRuntime, path: &str, wanted: Wanted<'_>) -> Result<Program, Failure> {
     let script = text_of(rt.alloc(), path, read_bytes(rt, path)?)?;
-    let mut program = compiled(rt, path, script.as_str())?.into_program();
-    if with_source && path != STANDARD {
+    let mut program = compiled(rt, wanted.surroundings, path, script.as_str())?.into_program();
+    if wanted.source && path != STANDARD {
         let name = String::from_str(rt.alloc(), path)?;
         let _named = program.set_source(name);
     }
@@ -68,9 +73,9 @@ fn program_of(rt: &HostRuntime, path: &str, with_source: bool) -> Result<Program
 }
 
 /// The program file of a script, and the sidecar file, empty if the positions stay.
-fn made(rt: &HostRuntime, path: &str, wanted: Wanted) -> Result<(Vec<u8>, Vec<u8>), Failure> {
+fn made(rt: &HostRuntime, path: &str, wanted: Wanted<'_>) -> Result<(Vec<u8>, Vec<u8>), Failure> {
     let alloc = rt.alloc();
-    let mut program = program_of(rt, path, wanted.source)?;
+    let mut program = program_of(rt, path, wanted)?;
     let table = if wanted.stripped || wanted.sidecar {
         strip(alloc, path, &mut program)?
     } else {
@@ -84,7 +89,9 @@ pub fn run(rt: &HostRuntime, matches: &ArgMatches<'_>) -> Result<u8, Failure> {
     let path = matches.get_str("FILE").unwrap_or("-");
     let to = matches.get_str("output");
     let sidecar = matches.get_str("sidecar");
+    let surroundings = Surroundings::of(rt, matches)?;
     let wanted = Wanted {
+        surroundings: &surroundings,
         sidecar: sidecar.is_some(),
         stripped: matches.get_flag("strip"),
         source: !matches.get_flag("no-source"),

@@ -4,6 +4,7 @@ use clap::ArgMatches;
 use grain_cli::arguments::{Argument, FILE, Subcommand};
 use grain_cli::failure::Failure;
 use grain_cli::files::{is_sidecar, program_of, read_bytes, shown, sidecar_of};
+use grain_cli::json_lines::Escaping;
 use grain_cli::output::Output;
 use grain_cli::overlaps::refuse_input;
 use grain_dump::{Dump, JsonDump, TextDump, program_dump, sidecar_dump};
@@ -42,9 +43,9 @@ fn write_dump(
     let alloc = rt.alloc();
     let output = Output::open(rt, to)?;
     if is_json {
-        let mut json = JsonDump::new(alloc, output);
+        let mut json = JsonDump::new(alloc, Escaping::new(alloc, output));
         let done = dump.write(alloc, path, bytes, &mut json);
-        json.into_inner().end(rt, done)
+        json.into_inner().into_inner().end(rt, done)
     } else {
         let mut text = TextDump::new(alloc, output);
         let done = dump.write(alloc, path, bytes, &mut text);

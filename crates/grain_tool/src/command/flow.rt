@@ -1,7 +1,8 @@
 //! `grain flow`: the control flow of a function, as a picture.
 
 use crate::command::list::explained;
-use crate::scripts::program_in;
+use crate::modules::INCLUDE;
+use crate::scripts::{Surroundings, program_in};
 use clap::ArgMatches;
 use grain::Program;
 use grain_cli::arguments::{Argument, FILE, Subcommand};
@@ -35,6 +36,7 @@ pub const SUBCOMMAND: Subcommand = Subcommand {
             help: "Write text for Graphviz in place of SVG",
         },
         WORK,
+        INCLUDE,
         Argument::Output,
     ],
 };
@@ -127,7 +129,7 @@ pub fn run(rt: &HostRuntime, matches: &ArgMatches<'_>) -> Result<u8, Failure> {
     let (name, is_dot) = (matches.get_str("function"), matches.get_flag("dot"));
     let to = matches.get_str("output");
     refuse_input(rt, to, path)?;
-    let program = program_in(rt, path)?;
+    let program = program_in(rt, &Surroundings::of(rt, matches)?, path)?;
     admit(rt.alloc(), path, allowed_of(matches), &program)?;
     draw_function(rt, path, to, &program, name, is_dot)?;
     Ok(0)

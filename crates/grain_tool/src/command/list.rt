@@ -5,6 +5,7 @@ use grain::{Caps, Flags, Program, VerifyError};
 use grain_cli::arguments::{Argument, FILE, Subcommand};
 use grain_cli::failure::Failure;
 use grain_cli::files::{read_program, shown};
+use grain_cli::json_lines::Escaping;
 use grain_cli::loading::{
     Allowed, Obstacle, WORK, allowed_of, obstacle_before, push_lacking, refused,
 };
@@ -207,9 +208,9 @@ fn write_json(
     listing: &ProgramListing,
     refusal: Option<&str>,
 ) -> Result<(), Failure> {
-    let mut json = JsonStream::new(rt.alloc(), output);
+    let mut json = JsonStream::new(rt.alloc(), Escaping::new(rt.alloc(), output));
     let done = write_as_json(rt.alloc(), &mut json, path, naming, listing, refusal);
-    json.into_inner().end(rt, done)
+    json.into_inner().into_inner().end(rt, done)
 }
 
 /// Writes the listing of a program: as text with these colours, or as JSON if there are none.

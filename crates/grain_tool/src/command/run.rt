@@ -1,7 +1,8 @@
 //! `grain run`: a script or a program file, verified and run.
 
 use crate::memory::run_within;
-use crate::scripts::{Input, input_in};
+use crate::modules::INCLUDE;
+use crate::scripts::{Input, Surroundings, input_in};
 use crate::terminal::Terminal;
 use clap::ArgMatches;
 use grain::Program;
@@ -11,7 +12,7 @@ use grain_cli::failure::Failure;
 use grain_cli::files::shown;
 use grain_cli::loading::{WORK, allowed_of};
 use grain_cli::places::{chunk_at, write_place};
-use grain_listing::{name_of, push_shown};
+use grain_listing::{name_of, push_name, push_shown};
 use grain_machine::{Outcome, Prepared, RunLimits, prepare};
 use rhai_runtime::{Fault, Script, World};
 use rhai_values::{Cause, SizeLimits, Value};
@@ -82,6 +83,7 @@ pub const SUBCOMMAND: Subcommand = Subcommand {
             help: "Stop once the process has more memory than this (default: never)",
         },
         WORK,
+        INCLUDE,
         Argument::Rest {
             name: "ARG",
             help: "Texts that the script gets from the function `args()`",
@@ -140,7 +142,9 @@ fn write_call(alloc: Global, program: &Program, at: usize) -> Result<String, All
     let is_placed = !program.position(program.main().entry() as usize).is_none();
     match chunk_at(program, at) {
         Some(place) if is_placed && program.position(at).is_none() => {
-            String::from_str(alloc, name_of(program, place))
+            let mut text = String::new(alloc);
+            push_name(name_of(program, place), &mut text)?;
+            Ok(text)
         }
         _ => write_place(alloc, program, at),
     }
@@ -331,7 +335,8 @@ fn run_here(
 /// Runs a script or a program file.
 pub fn run(rt: &HostRuntime, matches: &ArgMatches<'_>) -> Result<u8, Failure> {
     let path = matches.get_str("FILE").unwrap_or("-");
-    let input = input_in(rt, path, allowed_of(matches))?;
+    let surroundings = Surroundings::of(rt, matches)?;
+    let input = input_in(rt, &surroundings, path, allowed_of(matches))?;
     run_here(rt, matches, path, input)?;
     Ok(0)
 }
