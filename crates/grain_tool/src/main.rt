@@ -3,11 +3,7 @@
 
 mod command;
 mod memory;
-mod modules;
-mod scripts;
 mod terminal;
-mod unknown;
-mod variables;
 
 use crate::command::WRONG_ARGUMENTS;
 use clap::error::ErrorKind;

@@ -1,9 +1,5 @@
 //! `grain check`: whether scripts can be compiled.
 
-use crate::modules::INCLUDE;
-use crate::scripts::{Surroundings, compiled, text_of};
-use crate::unknown::{Warning, unknown_calls};
-use crate::variables::VARS;
 use clap::ArgMatches;
 use grain::pos::Site;
 use grain_cli::arguments::{Argument, Subcommand};
@@ -12,6 +8,11 @@ use grain_cli::failure::Failure;
 use grain_cli::files::{read_bytes, shown};
 use grain_cli::json_lines::{line_of, writer};
 use grain_cli::output::write_standard;
+use grain_scripts::modules::INCLUDE;
+use grain_scripts::scripts::{Surroundings, compiled};
+use grain_scripts::sources::text_of;
+use grain_scripts::unknown::{Warning, unknown_calls};
+use grain_scripts::variables::VARS;
 use json::Writer;
 use std::alloc::{AllocError, Global};
 

@@ -1,8 +1,5 @@
 //! `grain compile`: the program file of a script.
 
-use crate::modules::INCLUDE;
-use crate::scripts::{Surroundings, compiled, text_of};
-use crate::variables::VARS;
 use clap::ArgMatches;
 use grain::Program;
 use grain_cli::arguments::{Argument, FILE, Subcommand};
@@ -10,6 +7,10 @@ use grain_cli::failure::Failure;
 use grain_cli::files::{file_of, read_bytes, shown};
 use grain_cli::output::{STANDARD, write_binary, write_both};
 use grain_cli::overlaps::{refuse_input, refuse_twice};
+use grain_scripts::modules::INCLUDE;
+use grain_scripts::scripts::{Surroundings, compiled};
+use grain_scripts::sources::text_of;
+use grain_scripts::variables::VARS;
 use std::alloc::Global;
 
 /// `grain compile`

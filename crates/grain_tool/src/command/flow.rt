@@ -1,8 +1,6 @@
 //! `grain flow`: the control flow of a function, as a picture.
 
 use crate::command::list::explained;
-use crate::modules::INCLUDE;
-use crate::scripts::{Surroundings, program_in};
 use clap::ArgMatches;
 use grain::Program;
 use grain_cli::arguments::{Argument, FILE, Subcommand};
@@ -13,6 +11,8 @@ use grain_cli::output::Output;
 use grain_cli::overlaps::refuse_input;
 use grain_flow::{Graph, write_dot, write_svg};
 use grain_listing::{ProgramListing, name_of};
+use grain_scripts::modules::INCLUDE;
+use grain_scripts::scripts::{Surroundings, program_in};
 use std::alloc::{AllocError, Global};
 use std::io;
 use std::io::Write;

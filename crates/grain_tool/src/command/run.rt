@@ -1,8 +1,6 @@
 //! `grain run`: a script or a program file, verified and run.
 
 use crate::memory::run_within;
-use crate::modules::INCLUDE;
-use crate::scripts::{Input, Surroundings, input_in};
 use crate::terminal::Terminal;
 use clap::ArgMatches;
 use grain::Program;
@@ -14,6 +12,8 @@ use grain_cli::loading::{WORK, allowed_of};
 use grain_cli::places::{chunk_at, write_place};
 use grain_listing::{name_of, push_name, push_shown};
 use grain_machine::{Outcome, Prepared, RunLimits, prepare};
+use grain_scripts::modules::INCLUDE;
+use grain_scripts::scripts::{Input, Surroundings, input_in};
 use rhai_runtime::{Fault, Script, World};
 use rhai_values::{Cause, SizeLimits, Value};
 use std::alloc::{AllocError, Global};

@@ -1,6 +1,6 @@
 //! Modules that are files.
 
-use crate::scripts::text_of;
+use crate::sources::text_of;
 use grain_cli::arguments::Argument;
 use grain_cli::failure::Failure;
 use grain_cli::files::read_bytes;

@@ -1,20 +1,17 @@
 //! Scripts and program files alike.
 
 use crate::modules::{FileModules, refuse_missing};
+use crate::sources::{refused, text_of};
 use crate::variables::HostVariables;
 use clap::ArgMatches;
 use grain::{Program, Verified};
-use grain_cli::excerpt::push_report;
 use grain_cli::failure::Failure;
-use grain_cli::files::{program_of, read_bytes, shown};
+use grain_cli::files::{program_of, read_bytes};
 use grain_cli::loading::{Allowed, admit, verified_of};
 use grain_file::kind_of;
 use md5::{Digest, Md5};
-use rhai_compile::{CompileError, LinkError, Options, Problem, compile_with, flaws};
+use rhai_compile::{LinkError, Options, compile_with};
 use std::alloc::{AllocError, Global};
-
-/// How long reports of errors get before no other is added.
-const LONGEST_REPORTS: usize = 65_536;
 
 /// What scripts are compiled with, besides their texts and what lies beside them.
 #[derive(Drop)]
@@ -105,17 +102,6 @@ pub fn input_in(
     })
 }
 
-/// The text of a script.
-///
-/// # Errors
-/// The bytes are no text.
-pub fn text_of(alloc: Global, path: &str, bytes: Vec<u8>) -> Result<String, Failure> {
-    match String::from_utf8(bytes) {
-        Ok(script) => Ok(script),
-        Err(_) => Err(Failure::of(alloc, shown(path), "the text is not UTF-8")),
-    }
-}
-
 /// The program of a script, and of its modules.
 ///
 /// # Errors
@@ -174,38 +160,4 @@ fn digest_of(source: &[u8]) -> [u8; 16] {
     let mut hasher = Md5::new();
     hasher.update(source);
     hasher.finalize()
-}
-
-/// Why a script can't be compiled, of which this is the first error.
-pub fn refused(alloc: Global, path: &str, source: &str, error: CompileError) -> Failure {
-    if error.problem == Problem::OutOfMemory {
-        return Failure::OutOfMemory;
-    }
-    match with_all_errors(alloc, path, source, error) {
-        Ok(failure) => failure,
-        Err(AllocError) => Failure::OutOfMemory,
-    }
-}
-
-/// The errors of its syntax, or else the one that the compiler found: each with its line and a caret, as far as there is room.
-fn with_all_errors(
-    alloc: Global,
-    path: &str,
-    source: &str,
-    error: CompileError,
-) -> Result<Failure, AllocError> {
-    let mut errors = flaws(alloc, source)?;
-    if errors.is_empty() {
-        errors.push(error)?;
-    }
-    let mut text = String::new(alloc);
-    for error in &errors {
-        if text.len() < LONGEST_REPORTS {
-            push_report(shown(path), source, error, &mut text)?;
-        }
-    }
-    Ok(Failure::Script {
-        report: text,
-        errors,
-    })
 }

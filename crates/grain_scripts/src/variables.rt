@@ -1,6 +1,6 @@
 //! Variables that the host of a script has.
 
-use crate::scripts::refused;
+use crate::sources::refused;
 use grain::pos::Site;
 use grain::{Op, Position, Program, Receiver, Root, disassemble};
 use grain_cli::arguments::Argument;
