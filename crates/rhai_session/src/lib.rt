@@ -13,9 +13,10 @@ mod opening;
 mod report;
 mod running;
 mod session;
+mod stops;
 
 pub use event::{Answer, HostEvent, Refused};
 pub use failure::{FaultKind, RunFailure};
 pub use modules::CModuleText;
-pub use opening::{CompileStop, LoadStop};
 pub use session::Session;
+pub use stops::{CompileStop, LoadStop};

@@ -1,6 +1,6 @@
 //! Modules of a host: a table of their names and texts.
 
-use crate::opening::CompileStop;
+use crate::stops::CompileStop;
 use rhai_compile::Modules;
 use std::alloc::{AllocError, Global};
 use std::collections::BTreeMap;
