@@ -25,32 +25,52 @@ fn map(alloc: Global) -> Result<Value, Fail> {
     Ok(Value::Map(Rc::new(alloc, object)?))
 }
 
-/// Values of every kind but a shared one.
-fn values(alloc: Global) -> Result<Vec<Value>, Fail> {
-    let mut values = Vec::new(alloc);
-    values.push(Value::Unit)?;
-    values.push(Value::Bool(false))?;
-    values.push(Value::Bool(true))?;
-    values.push(Value::Int(i64::MIN))?;
-    values.push(Value::Float(-0.1))?;
-    values.push(Value::Float(f64::INFINITY))?;
-    values.push(Value::Char('\u{10ffff}'))?;
+fn blob(alloc: Global) -> Result<Value, Fail> {
+    let bytes = vec![in alloc; 0u8, 255]?;
+    Ok(Value::Blob(Rc::new(alloc, bytes)?))
+}
+
+fn pointer(alloc: Global) -> Result<Value, Fail> {
+    let bound = vec![in alloc; map(alloc)?, Value::Int(7)]?;
+    let pointer = Pointer::new(String::from_str(alloc, "f")?, bound);
+    Ok(Value::Pointer(Rc::new(alloc, pointer)?))
+}
+
+fn array(alloc: Global) -> Result<Value, Fail> {
+    let items = vec![in alloc; Value::Unit, map(alloc)?]?;
+    Ok(Value::array(alloc, items)?)
+}
+
+fn push_texts(alloc: Global, values: &mut Vec<Value>) -> Result<(), Fail> {
     values.push(text(alloc, "")?)?;
     values.push(text(alloc, "über")?)?;
     values.push(Value::range(alloc, -3, 4, false)?)?;
     values.push(Value::range(alloc, 5, -6, true)?)?;
-    let bytes = vec![in alloc; 0u8, 255]?;
-    values.push(Value::Blob(Rc::new(alloc, bytes)?))?;
+    Ok(())
+}
+
+fn push_parts(alloc: Global, values: &mut Vec<Value>) -> Result<(), Fail> {
+    values.push(blob(alloc)?)?;
     values.push(map(alloc)?)?;
-    let bound = vec![in alloc; map(alloc)?, Value::Int(7)]?;
-    let pointer = Pointer::new(String::from_str(alloc, "f")?, bound);
-    values.push(Value::Pointer(Rc::new(alloc, pointer)?))?;
-    let items = vec![in alloc;
+    values.push(pointer(alloc)?)?;
+    values.push(array(alloc)?)?;
+    Ok(())
+}
+
+/// Values of every kind but a shared one.
+fn values(alloc: Global) -> Result<Vec<Value>, Fail> {
+    let plain = [
         Value::Unit,
-        map(alloc)?,
-        Value::pointer(alloc, "g").map_err(|_| Fail::new("memory"))?,
-    ]?;
-    values.push(Value::array(alloc, items)?)?;
+        Value::Bool(false),
+        Value::Bool(true),
+        Value::Int(i64::MIN),
+        Value::Float(-0.1),
+        Value::Float(f64::INFINITY),
+        Value::Char('\u{10ffff}'),
+    ];
+    let mut values = Vec::from_array(alloc, plain)?;
+    push_texts(alloc, &mut values)?;
+    push_parts(alloc, &mut values)?;
     Ok(values)
 }
 

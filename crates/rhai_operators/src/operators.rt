@@ -5,7 +5,7 @@ use crate::overflows::{negation_overflow, overflow};
 use grain_base::Token;
 use rhai_texts::bytes::append;
 use rhai_texts::words;
-use rhai_values::{Cause, Text, Value, are_equal, order};
+use rhai_values::{Cause, List, Object, Text, Value, are_equal, order};
 use std::alloc::Global;
 use std::cmp::Ordering;
 use std::rc::Rc;
@@ -209,44 +209,58 @@ fn extended(
     right: &Value,
 ) -> Result<Option<Value>, Cause> {
     let is_assigned = matches!(operator, Token::PlusAssign);
-    match (left.take(), right) {
-        (Value::Text(mut text), other) => {
-            push_shown(alloc, &mut text, other)?;
-            Ok(Some(Value::Text(text)))
+    if extend(alloc, is_assigned, left, right)? {
+        return Ok(Some(left.take()));
+    }
+    joined(alloc, left, right)
+}
+
+/// Appends a value to a text, an array, an object map or a blob, and says whether that takes it.
+fn extend(
+    alloc: Global,
+    is_assigned: bool,
+    left: &mut Value,
+    right: &Value,
+) -> Result<bool, Cause> {
+    match left {
+        Value::Text(text) => push_shown(alloc, text, right),
+        Value::Array(list) => extend_list(list, is_assigned, right),
+        Value::Map(object) => extend_object(object, right),
+        Value::Blob(bytes) if is_assigned || matches!(right, Value::Blob(_)) => {
+            append(alloc, bytes, right)
         }
-        (Value::Array(mut list), Value::Array(others)) => {
-            Rc::make_mut(&mut list)?.extend(others.items())?;
-            Ok(Some(Value::Array(list)))
-        }
-        (Value::Array(mut list), _) if is_assigned => {
-            Rc::make_mut(&mut list)?.push(right.clone()?)?;
-            Ok(Some(Value::Array(list)))
-        }
-        (Value::Map(mut object), Value::Map(others)) => {
-            Rc::make_mut(&mut object)?.extend(others)?;
-            Ok(Some(Value::Map(object)))
-        }
-        (Value::Blob(mut bytes), other) if is_assigned || matches!(other, Value::Blob(_)) => {
-            if append(alloc, &mut bytes, other)? {
-                Ok(Some(Value::Blob(bytes)))
-            } else {
-                *left = Value::Blob(bytes);
-                Ok(None)
-            }
-        }
-        (first, Value::Text(text)) => {
+        _ => Ok(false),
+    }
+}
+
+fn extend_list(list: &mut Rc<List>, is_assigned: bool, right: &Value) -> Result<bool, Cause> {
+    match right {
+        Value::Array(others) => Rc::make_mut(list)?.extend(others.items())?,
+        _ if is_assigned => Rc::make_mut(list)?.push(right.clone()?)?,
+        _ => return Ok(false),
+    }
+    Ok(true)
+}
+
+fn extend_object(object: &mut Rc<Object>, right: &Value) -> Result<bool, Cause> {
+    match right {
+        Value::Map(others) => Rc::make_mut(object)?.extend(others)?,
+        _ => return Ok(false),
+    }
+    Ok(true)
+}
+
+/// What `+` gives of any value and a text, and of two characters.
+fn joined(alloc: Global, left: &Value, right: &Value) -> Result<Option<Value>, Cause> {
+    match right {
+        Value::Text(text) => {
             let text = text.as_str();
-            let joined = format!(in alloc; "{first}{text}")?;
-            Ok(Some(Value::text(alloc, joined)?))
+            Ok(Some(Value::text(alloc, format!(in alloc; "{left}{text}")?)?))
         }
-        (Value::Char(first), Value::Char(second)) => {
-            let joined = format!(in alloc; "{first}{second}")?;
-            Ok(Some(Value::text(alloc, joined)?))
+        Value::Char(second) if matches!(left, Value::Char(_)) => {
+            Ok(Some(Value::text(alloc, format!(in alloc; "{left}{second}")?)?))
         }
-        (other, _) => {
-            *left = other;
-            Ok(None)
-        }
+        _ => Ok(None),
     }
 }
 
@@ -262,19 +276,16 @@ fn reduced(alloc: Global, left: &Value, right: &Value) -> Result<Option<Value>, 
     Ok(Some(Value::text(alloc, rest)?))
 }
 
-/// Appends what a value shows to a text.
-fn push_shown(alloc: Global, text: &mut Rc<Text>, value: &Value) -> Result<(), Cause> {
+/// Appends what a value shows to a text, which takes any value.
+fn push_shown(alloc: Global, text: &mut Rc<Text>, value: &Value) -> Result<bool, Cause> {
     let text = Rc::make_mut(text)?;
     match value {
         Value::Text(other) => text.push_str(other.as_str())?,
         Value::Char(character) => text.push(*character)?,
         Value::Blob(bytes) => text.push_str(String::from_utf8_lossy(alloc, bytes)?.as_str())?,
-        value => {
-            let shown = format!(in alloc; "{value}")?;
-            text.push_str(shown.as_str())?;
-        }
+        value => text.push_str(format!(in alloc; "{value}")?.as_str())?,
     }
-    Ok(())
+    Ok(true)
 }
 
 /// What an operator before its only operand gives. `None` means that it doesn't take such an operand.

@@ -253,6 +253,15 @@ impl Cursor {
         Ok(())
     }
 
+    /// The end of a condition of an arm at this place, and the arrow after it. The case `_` has no condition.
+    pub(crate) fn end_condition(&mut self, place: Site, has_any: bool) -> Result<(), CompileError> {
+        self.check_condition()?;
+        if has_any {
+            return Err(CompileError::new(place, Problem::DefaultCondition));
+        }
+        self.expect(Mark::Arrow, Thing::Arrow)
+    }
+
     /// A name isn't followed by `!(`.
     pub(crate) fn check_scope_call(&self) -> Result<(), CompileError> {
         match (self.peek().kind, self.ahead(1).kind) {

@@ -253,16 +253,21 @@ impl Cursor {
         is_const: bool,
         value: Expr,
     ) -> Result<(), CompileError> {
-        let constant = match &value.form {
-            Form::Literal(literal) => Constant::Literal(*literal),
-            _ => Constant::Computed(self.computing(name, value)?),
-        };
+        let constant = self.constant(name, value)?;
         if is_const {
             let linked = self.constant_in_program(name)?;
             let _ = self.interface.constants.insert(linked, constant)?;
         }
         let _ = self.links.values.insert(name, constant)?;
         Ok(())
+    }
+
+    /// The constant of an exported value: a literal, or the function that computes it.
+    fn constant(&mut self, name: u32, value: Expr) -> Result<Constant, CompileError> {
+        if let Form::Literal(literal) = &value.form {
+            return Ok(Constant::Literal(*literal));
+        }
+        Ok(Constant::Computed(self.computing(name, value)?))
     }
 
     /// A module exports a variable or constant under a name.

@@ -253,6 +253,18 @@ impl<F: Fn(&mut Cursor, usize, u8) -> Result<Expr, CompileError>> Grammar<F> {
     fn stepped(&self, cursor: &mut Cursor, root: Expr) -> Result<Expr, CompileError>
         requires { (c : _) (least : _) → F.pre self.now.reads c self.now.depth least }
     {
+        let steps = self.steps(cursor)?;
+        if steps.is_empty() {
+            return Ok(root);
+        }
+        let place = root.place;
+        let root = cursor.boxed(root)?;
+        Ok(cursor.expr(place, Form::Access(root, steps)))
+    }
+
+    fn steps(&self, cursor: &mut Cursor) -> Result<Vec<Access>, CompileError>
+        requires { (c : _) (least : _) → F.pre self.now.reads c self.now.depth least }
+    {
         let mut steps = Vec::new(cursor.alloc);
         for _turn in 0..cursor.left() {
             let Some(step) = self.step(cursor)? else {
@@ -260,12 +272,7 @@ impl<F: Fn(&mut Cursor, usize, u8) -> Result<Expr, CompileError>> Grammar<F> {
             };
             steps.push(step)?;
         }
-        if steps.is_empty() {
-            return Ok(root);
-        }
-        let place = root.place;
-        let root = cursor.boxed(root)?;
-        Ok(cursor.expr(place, Form::Access(root, steps)))
+        Ok(steps)
     }
 
     fn step(&self, cursor: &mut Cursor) -> Result<Option<Access>, CompileError>

@@ -1,6 +1,6 @@
 //! What is outside of blocks: functions, imports, exports, and statements.
 
-use crate::ast::{Expr, Form, Import, Literal};
+use crate::ast::{Binding, Expr, Form, Import, Literal};
 use crate::cursor::Cursor;
 use crate::grammar::Grammar;
 use grain_base::pos::Site;
@@ -36,36 +36,31 @@ impl<F: Fn(&mut Cursor, usize, u8) -> Result<Expr, CompileError>> Grammar<F> {
         let name = cursor.binding(Thing::VariableName)?;
         let before = cursor.computed;
         let value = self.initial(cursor, place)?;
-        let is_made_of_literals = cursor.computed == before;
-        end_statement(cursor)?;
-        if cursor.is_module() {
-            if !is_made_of_literals {
-                return Err(CompileError::new(value.place, Problem::ComputedExport));
-            }
-            cursor.link_value(name.name, is_const, value)?;
-            if is_exported {
-                cursor.export_value(name.place, name.name, name.name)?;
-            }
-            return Ok(unit(cursor, place));
-        }
-        let value = if is_const && is_made_of_literals {
-            cursor.link_constant(name.name, value)?
-        } else {
-            value
+        let global = Global {
+            place,
+            name,
+            is_const,
+            is_made_of_literals: cursor.computed == before,
         };
-        let value = cursor.boxed(value)?;
-        Ok(cursor.expr(place, Form::Let(name, is_const, Some(value))))
+        if cursor.is_module() {
+            module_global(cursor, global, is_exported, value)
+        } else {
+            script_global(cursor, global, value)
+        }
     }
 
-    /// What a variable is declared with: unit, if nothing is said.
+    /// What a variable is declared with: unit, if nothing is said. It goes past the semicolon.
     fn initial(&self, cursor: &mut Cursor, place: Site) -> Result<Expr, CompileError>
         requires { (c : _) (least : _) → F.pre self.now.reads c self.now.depth least }
     {
         if !cursor.is_at_assign() {
+            end_statement(cursor)?;
             return Ok(unit(cursor, place));
         }
         cursor.go();
-        self.expr(cursor, 0)
+        let value = self.expr(cursor, 0)?;
+        end_statement(cursor)?;
+        Ok(value)
     }
 
     /// `export`. The main text exports to nobody, but has what it exports.
@@ -89,6 +84,49 @@ impl<F: Fn(&mut Cursor, usize, u8) -> Result<Expr, CompileError>> Grammar<F> {
         statements.push(unit(cursor, at))?;
         Ok(cursor.expr(place, Form::Block(statements)))
     }
+}
+
+/// A variable or a constant outside of blocks, without its value.
+#[derive(Clone, Copy)]
+struct Global {
+    /// Where its statement begins.
+    place: Site,
+    name: Binding,
+    is_const: bool,
+    /// Whether its value has literals alone.
+    is_made_of_literals: bool,
+}
+
+/// A variable or a constant of a module: others may import it, and no statement is left of it.
+fn module_global(
+    cursor: &mut Cursor,
+    global: Global,
+    is_exported: bool,
+    value: Expr,
+) -> Result<Expr, CompileError> {
+    if !global.is_made_of_literals {
+        return Err(CompileError::new(value.place, Problem::ComputedExport));
+    }
+    let Binding { name, place } = global.name;
+    cursor.link_value(name, global.is_const, value)?;
+    if is_exported {
+        cursor.export_value(place, name, name)?;
+    }
+    Ok(unit(cursor, global.place))
+}
+
+/// A variable or a constant of the main text.
+fn script_global(cursor: &mut Cursor, global: Global, value: Expr) -> Result<Expr, CompileError> {
+    let value = if global.is_const && global.is_made_of_literals {
+        cursor.link_constant(global.name.name, value)?
+    } else {
+        value
+    };
+    let value = cursor.boxed(value)?;
+    Ok(cursor.expr(
+        global.place,
+        Form::Let(global.name, global.is_const, Some(value)),
+    ))
 }
 
 /// `import`, whose value is unit.

@@ -122,17 +122,29 @@ impl<F: Fn(&mut Cursor, usize, u8) -> Result<Expr, CompileError>> Grammar<F> {
         requires { (c : _) (least : _) → F.pre self.now.reads c self.now.depth least }
     {
         let target = self.expr(cursor, 0)?;
-        let operator = match cursor.peek().kind {
-            Kind::Assign(operator) => operator,
-            _ => return Ok(target),
-        };
+        match cursor.peek().kind {
+            Kind::Assign(operator) => self.assigned(cursor, place, target, operator),
+            _ => Ok(target),
+        }
+    }
+
+    /// The assignment to an expression, at its operator.
+    fn assigned(
+        &self,
+        cursor: &mut Cursor,
+        place: Site,
+        target: Expr,
+        operator: Option<Operator>,
+    ) -> Result<Expr, CompileError>
+        requires { (c : _) (least : _) → F.pre self.now.reads c self.now.depth least }
+    {
         if !can_be_assigned(&target.form) {
             return Err(CompileError::new(place, Problem::NotAssignable));
         }
+        let target = cursor.boxed(target)?;
         let at = cursor.place();
         cursor.go();
         let value = self.boxed(cursor, 0)?;
-        let target = cursor.boxed(target)?;
         Ok(cursor.expr(at, Form::Assign(target, operator, value)))
     }
 
@@ -288,11 +300,7 @@ impl<F: Fn(&mut Cursor, usize, u8) -> Result<Expr, CompileError>> Grammar<F> {
     {
         let place = cursor.place();
         let cases = cases(cursor)?;
-        let condition = self.case_condition(cursor)?;
-        if condition.is_some() && has_any(&cases) {
-            return Err(CompileError::new(place, Problem::DefaultCondition));
-        }
-        cursor.expect(Mark::Arrow, Thing::Arrow)?;
+        let condition = self.case_condition(cursor, place, has_any(&cases))?;
         let body = self.statement(cursor)?;
         Ok(Arm {
             place,
@@ -302,15 +310,21 @@ impl<F: Fn(&mut Cursor, usize, u8) -> Result<Expr, CompileError>> Grammar<F> {
         })
     }
 
-    /// The condition of an arm, if it has one.
-    fn case_condition(&self, cursor: &mut Cursor) -> Result<Option<Expr>, CompileError>
+    /// The condition of an arm, if it has one, and the arrow. An arm at this place that has the case `_` has none.
+    fn case_condition(
+        &self,
+        cursor: &mut Cursor,
+        place: Site,
+        has_any: bool,
+    ) -> Result<Option<Expr>, CompileError>
         requires { (c : _) (least : _) → F.pre self.now.reads c self.now.depth least }
     {
         if !cursor.eat(Mark::If) {
+            cursor.expect(Mark::Arrow, Thing::Arrow)?;
             return Ok(None);
         }
         let condition = self.expr(cursor, 0)?;
-        cursor.check_condition()?;
+        cursor.end_condition(place, has_any)?;
         Ok(Some(condition))
     }
 }

@@ -13,25 +13,24 @@ impl Cause {
     /// # Errors
     /// Out of memory.
     pub fn into_value(self, alloc: Global, place: Position) -> Result<Value, AllocError> {
-        let cause = match self {
-            Cause::Thrown(value) => return Ok(value),
-            cause => cause,
-        };
+        match self {
+            Cause::Thrown(value) => Ok(value),
+            cause => cause.to_map(alloc, place),
+        }
+    }
+
+    fn to_map(&self, alloc: Global, place: Position) -> Result<Value, AllocError> {
         let mut object = Object::new(alloc);
-        put_text(
-            alloc,
-            &mut object,
-            "error",
-            String::from_str(alloc, cause.error_name())?,
-        )?;
-        put_text(alloc, &mut object, "message", format!(in alloc; "{cause}")?)?;
-        if let Some(line) = place.line() {
-            put(alloc, &mut object, "line", integer(line))?;
-        }
-        if let Some(column) = place.position() {
-            put(alloc, &mut object, "position", integer(column))?;
-        }
+        self.describe(alloc, &mut object)?;
+        locate(alloc, &mut object, place)?;
         Ok(Value::Map(Rc::new(alloc, object)?))
+    }
+
+    /// Adds the name and the sentence.
+    fn describe(&self, alloc: Global, object: &mut Object) -> Result<(), AllocError> {
+        let name = String::from_str(alloc, self.error_name())?;
+        put_text(alloc, object, "error", name)?;
+        put_text(alloc, object, "message", format!(in alloc; "{self}")?)
     }
 
     /// The name of the variant of Rhai's `EvalAltResult`.
@@ -58,6 +57,17 @@ fn name_of(reason: Reason) -> &'static str {
         Reason::Overflow | Reason::DivisionByZero | Reason::NoNumber => "ErrorArithmetic",
         Reason::World => "ErrorRuntime",
     }
+}
+
+/// Adds the line and the column that are known.
+fn locate(alloc: Global, object: &mut Object, place: Position) -> Result<(), AllocError> {
+    if let Some(line) = place.line() {
+        put(alloc, object, "line", integer(line))?;
+    }
+    if let Some(column) = place.position() {
+        put(alloc, object, "position", integer(column))?;
+    }
+    Ok(())
 }
 
 fn put_text(

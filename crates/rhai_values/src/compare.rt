@@ -12,25 +12,54 @@ use std::num::nearest_i64_to_f64;
 #[cycle(equal)]
 #[must_use]
 pub fn are_equal(left: &Value, right: &Value) -> bool {
+    match left {
+        Value::Array(x) => match right {
+            Value::Array(y) => are_items_equal(&x.items, &y.items),
+            _ => false,
+        },
+        Value::Map(x) => match right {
+            Value::Map(y) => are_entries_equal(&x.entries, &y.entries),
+            _ => false,
+        },
+        Value::Pointer(x) => match right {
+            Value::Pointer(y) => x.name() == y.name() && are_items_equal(&x.bound, &y.bound),
+            _ => false,
+        },
+        Value::Int(_) | Value::Float(_) => are_numbers_equal(left, right),
+        Value::Text(_) | Value::Char(_) => are_texts_equal(left, right),
+        _ => are_parts_equal(left, right),
+    }
+}
+
+/// Whether two values are equal, of which the first is a number.
+fn are_numbers_equal(left: &Value, right: &Value) -> bool {
     match (left, right) {
-        (Value::Unit, Value::Unit) => true,
-        (Value::Bool(x), Value::Bool(y)) => x == y,
         (Value::Int(x), Value::Int(y)) => x == y,
-        (Value::Float(_), _) | (_, Value::Float(_)) => match as_floats(left, right) {
+        _ => match as_floats(left, right) {
             Some((x, y)) => x == y,
             None => false,
         },
+    }
+}
+
+/// Whether two values are equal, of which the first is a text or a character.
+fn are_texts_equal(left: &Value, right: &Value) -> bool {
+    match (left, right) {
         (Value::Char(x), Value::Char(y)) => x == y,
         (Value::Text(x), Value::Text(y)) => x.as_str() == y.as_str(),
         (Value::Text(text), Value::Char(character)) | (Value::Char(character), Value::Text(text)) =>
             { matches!(order_of_character(text, *character), Ordering::Equal) }
+        _ => false,
+    }
+}
+
+/// Whether two values are equal, of which the first has no values in it, and is no number, text or character.
+fn are_parts_equal(left: &Value, right: &Value) -> bool {
+    match (left, right) {
+        (Value::Unit, Value::Unit) => true,
+        (Value::Bool(x), Value::Bool(y)) => x == y,
         (Value::Range(x), Value::Range(y)) => **x == **y,
-        (Value::Array(x), Value::Array(y)) => are_items_equal(&x.items, &y.items),
         (Value::Blob(x), Value::Blob(y)) => x.as_slice() == y.as_slice(),
-        (Value::Map(x), Value::Map(y)) => are_entries_equal(&x.entries, &y.entries),
-        (Value::Pointer(x), Value::Pointer(y)) => {
-            x.name() == y.name() && are_items_equal(&x.bound, &y.bound)
-        }
         (Value::Foreign(x), Value::Foreign(y)) => **x == **y,
         (Value::Shared(x), Value::Shared(y)) => **x == **y,
         _ => false,

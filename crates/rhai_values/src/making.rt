@@ -56,17 +56,7 @@ impl Value {
             Value::Unit => Object::new(alloc),
             _ => return Err(Cause::WrongType("map")),
         };
-        let mut key = None;
-        for place in rest {
-            match (key.take(), place.take()) {
-                (None, Value::Text(name)) => key = Some(name),
-                (Some(name), value) => {
-                    let name = Rc::unwrap_or_clone(name)?.into_string();
-                    let _ = object.insert(name, value)?;
-                }
-                (None, _) => return Err(Cause::WrongType("string")),
-            }
-        }
+        insert_from(&mut object, rest)?;
         Ok(Value::Map(Rc::new(alloc, object)?))
     }
 
@@ -97,4 +87,20 @@ impl Value {
         let name = String::from_str(alloc, pointer.name())?;
         Ok(Value::Pointer(Rc::new(alloc, Pointer::new(name, bound))?))
     }
+}
+
+/// Gives the values in these places to the names before them.
+fn insert_from(object: &mut Object, places: &mut [Value]) -> Result<(), Cause> {
+    let mut key = None;
+    for place in places {
+        match (key.take(), place.take()) {
+            (None, Value::Text(name)) => key = Some(name),
+            (Some(name), value) => {
+                let name = Rc::unwrap_or_clone(name)?.into_string();
+                let _ = object.insert(name, value)?;
+            }
+            (None, _) => return Err(Cause::WrongType("string")),
+        }
+    }
+    Ok(())
 }

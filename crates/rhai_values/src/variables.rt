@@ -320,6 +320,18 @@ impl Variables {
         this: Option<This>,
         at: usize,
     ) -> Result<(), Cause> {
+        let base = self.push_locals(bound, arguments)?;
+        match this {
+            None => self.enter(base, at, false),
+            Some(this) => {
+                self.receivers.push(this)?;
+                self.enter(base, at, true)
+            }
+        }
+    }
+
+    /// Makes room for a call and its `this`, pushes its first local variables, and gives the slot of the first.
+    fn push_locals(&mut self, bound: &[Value], arguments: &mut [Value]) -> Result<usize, Cause> {
         self.calls.reserve(1)?;
         self.receivers.reserve(1)?;
         self.locals
@@ -331,11 +343,7 @@ impl Variables {
         for argument in arguments {
             self.locals.push(argument.take())?;
         }
-        let Some(this) = this else {
-            return self.enter(base, at, false);
-        };
-        self.receivers.push(this)?;
-        self.enter(base, at, true)
+        Ok(base)
     }
 
     fn enter(&mut self, base: usize, at: usize, has_this: bool) -> Result<(), Cause> {
