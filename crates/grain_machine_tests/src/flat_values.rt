@@ -1,11 +1,12 @@
 //! Values in flat form, written and read.
 
+use crate::samples::{assert_same, made};
 use grain_flat_file::tags::{
     ARRAY, BLOB, CHARACTER, FN_PTR, HOST, INTEGER, MAP, RANGE, SHARED, TEXT, TRUE, UNIT,
 };
 use rhai_flat::{BadValue, CValue, FlatValues, MAX_DEPTH, read_values};
 use rhai_values::{Cause, Object, Pointer, SizeLimits, Value, are_equal};
-use std::alloc::Global;
+use std::alloc::{AllocError, Global};
 use std::rc::Rc;
 use std::test::Fail;
 
@@ -78,33 +79,40 @@ fn row(tag: u32, count: u32, number: i64) -> CValue {
     CValue { tag, count, number }
 }
 
-#[test]
-fn values_come_back(rt: HostRuntime) -> Result<(), Fail> {
-    let alloc = rt.alloc();
-    let values = values(alloc)?;
+/// The rows of values, if all of them are written.
+fn written(alloc: Global, values: &[Value]) -> Result<FlatValues, Fail> {
     let mut flat = FlatValues::new(alloc);
-    for value in &values {
+    for value in values {
         if flat.write(value).is_err() {
             return Err(Fail::new("not written"));
         }
     }
-    let read = read_values(alloc, flat.rows(), flat.texts(), values.len(), LIMITS)?;
-    assert_eq!(rt; read.len(), values.len());
-    for (one, other) in values.iter().zip(read.iter()) {
-        assert!(rt; are_equal(one, other));
-        assert_eq!(rt; one.type_name(), other.type_name());
-        assert_eq!(rt; one.measure(), other.measure());
-    }
-    Ok(())
+    Ok(flat)
 }
 
 #[test]
-fn a_map_is_its_rows(rt: HostRuntime) -> Result<(), Fail> {
+fn values_come_back(rt: HostRuntime) {
     let alloc = rt.alloc();
-    let mut flat = FlatValues::new(alloc);
-    if flat.write(&map(alloc)?).is_err() {
-        return Err(Fail::new("not written"));
+    let values = made(&rt, values(alloc));
+    let flat = made(&rt, written(alloc, &values));
+    let count = values.len();
+    let read = made(
+        &rt,
+        read_values(alloc, flat.rows(), flat.texts(), count, LIMITS),
+    );
+    assert_same(&rt, read.len(), count);
+    for (one, other) in values.iter().zip(read.iter()) {
+        assert!(rt; are_equal(one, other));
+        assert_same(&rt, one.type_name(), other.type_name());
+        assert_same(&rt, one.measure(), other.measure());
     }
+}
+
+#[test]
+fn a_map_is_its_rows(rt: HostRuntime) {
+    let alloc = rt.alloc();
+    let values = [made(&rt, map(alloc))];
+    let mut flat = made(&rt, written(alloc, &values));
     let wanted = [
         row(MAP, 2, 0),
         row(TEXT, 1, 0),
@@ -112,35 +120,37 @@ fn a_map_is_its_rows(rt: HostRuntime) -> Result<(), Fail> {
         row(TEXT, 1, 3),
         row(INTEGER, 0, -1),
     ];
-    assert_eq!(rt; flat.rows().len(), wanted.len());
+    assert_same(&rt, flat.rows().len(), wanted.len());
     for (one, other) in flat.rows().iter().zip(wanted.iter()) {
-        assert_eq!(rt;
+        assert_same(
+            &rt,
             (one.tag, one.count, one.number),
-            (other.tag, other.count, other.number)
+            (other.tag, other.count, other.number),
         );
     }
-    assert_eq!(rt; flat.texts(), "aéb".as_bytes());
+    assert_same(&rt, flat.texts(), "aéb".as_bytes());
     flat.clear();
     assert!(rt; flat.rows().is_empty() && flat.texts().is_empty());
-    Ok(())
 }
 
-#[test]
-fn a_shared_variable_is_not_written(rt: HostRuntime) -> Result<(), Fail> {
-    let alloc = rt.alloc();
-    let mut flat = FlatValues::new(alloc);
+/// A pointer that has a shared variable among its bound arguments.
+fn sharing(alloc: Global) -> Result<Value, Fail> {
     let shared = Value::Shared(Rc::new(alloc, 0usize)?);
     let bound = vec![in alloc; text(alloc, "x")?, shared]?;
     let pointer = Pointer::new(String::from_str(alloc, "f")?, bound);
-    let pointer = Value::Pointer(Rc::new(alloc, pointer)?);
-    assert!(rt; flat.write(&text(alloc, "first")?).is_ok());
-    match flat.write(&pointer) {
-        Err(Cause::Unsupported) => {}
-        _ => return Err(Fail::new("another answer")),
-    }
-    assert_eq!(rt; flat.rows().len(), 1);
-    assert_eq!(rt; flat.texts(), "first".as_bytes());
-    Ok(())
+    Ok(Value::Pointer(Rc::new(alloc, pointer)?))
+}
+
+#[test]
+fn a_shared_variable_is_not_written(rt: HostRuntime) {
+    let alloc = rt.alloc();
+    let first = [made(&rt, text(alloc, "first"))];
+    let mut flat = made(&rt, written(alloc, &first));
+    let sharing = made(&rt, sharing(alloc));
+    let is_refused = matches!(flat.write(&sharing), Err(Cause::Unsupported));
+    assert!(rt; is_refused);
+    assert_same(&rt, flat.rows().len(), 1);
+    assert_same(&rt, flat.texts(), "first".as_bytes());
 }
 
 /// Why the rows are not one value.
@@ -153,7 +163,7 @@ fn refusal(alloc: Global, rows: &[CValue], texts: &[u8]) -> Option<BadValue> {
 }
 
 #[test]
-fn single_rows_are_refused(rt: HostRuntime) -> Result<(), Fail> {
+fn single_rows_are_refused(rt: HostRuntime) {
     let alloc = rt.alloc();
     let cases = [
         (row(INTEGER, 0, 5), None),
@@ -177,11 +187,10 @@ fn single_rows_are_refused(rt: HostRuntime) -> Result<(), Fail> {
         let found = refusal(alloc, [*row].as_slice(), [].as_slice());
         assert_eq!(rt; found, *wanted);
     }
-    Ok(())
 }
 
 #[test]
-fn rows_and_bytes_are_refused(rt: HostRuntime) -> Result<(), Fail> {
+fn rows_and_bytes_are_refused(rt: HostRuntime) {
     let alloc = rt.alloc();
     let integer = row(INTEGER, 0, 0);
     let deep = row(ARRAY, 1, 0);
@@ -222,11 +231,10 @@ fn rows_and_bytes_are_refused(rt: HostRuntime) -> Result<(), Fail> {
         refusal(alloc, [row(TEXT, 5, 0)].as_slice(), b"abcde".as_slice()),
         None
     );
-    Ok(())
 }
 
 #[test]
-fn keys_are_refused(rt: HostRuntime) -> Result<(), Fail> {
+fn keys_are_refused(rt: HostRuntime) {
     let alloc = rt.alloc();
     let unit = row(UNIT, 0, 0);
     let entries = [row(MAP, 2, 0), row(TEXT, 1, 0), unit, row(TEXT, 1, 1), unit];
@@ -239,34 +247,29 @@ fn keys_are_refused(rt: HostRuntime) -> Result<(), Fail> {
         refusal(alloc, entries.as_slice(), b"ba".as_slice()),
         Some(BadValue::KeyOrder)
     );
-    Ok(())
 }
 
-#[test]
-fn the_limit_on_depth_is_limited(rt: HostRuntime) -> Result<(), Fail> {
-    let alloc = rt.alloc();
+/// Arrays in arrays.
+fn nested(alloc: Global) -> Result<Vec<CValue>, AllocError> {
     let mut rows = Vec::new(alloc);
     for _ in 0..MAX_DEPTH {
         rows.push(row(ARRAY, 1, 0))?;
     }
     rows.push(row(UNIT, 0, 0))?;
-    let limits = SizeLimits {
-        size: 1000,
-        depth: MAX_DEPTH,
-    };
-    let values = read_values(alloc, rows.as_slice(), [].as_slice(), 1, limits)?;
-    let mut flat = FlatValues::new(alloc);
-    for value in &values {
-        assert!(rt; flat.write(value).is_ok());
-    }
-    assert_eq!(rt; flat.rows().len(), rows.len());
-    let limits = SizeLimits {
-        size: 1000,
-        depth: MAX_DEPTH + 1,
-    };
-    match read_values(alloc, rows.as_slice(), [].as_slice(), 1, limits) {
-        Err(error) => assert_eq!(rt; error, BadValue::DepthLimit),
-        Ok(_) => return Err(Fail::new("read")),
-    }
-    Ok(())
+    Ok(rows)
+}
+
+fn limit(depth: usize) -> SizeLimits {
+    SizeLimits { size: 1000, depth }
+}
+
+#[test]
+fn the_limit_on_depth_is_limited(rt: HostRuntime) {
+    let alloc = rt.alloc();
+    let rows = made(&rt, nested(alloc));
+    let values = made(&rt, read_values(alloc, &rows, &[], 1, limit(MAX_DEPTH)));
+    let flat = made(&rt, written(alloc, &values));
+    assert_same(&rt, flat.rows().len(), rows.len());
+    let refused = read_values(alloc, &rows, &[], 1, limit(MAX_DEPTH + 1)).err();
+    assert_same(&rt, refused, Some(BadValue::DepthLimit));
 }

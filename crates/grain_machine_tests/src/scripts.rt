@@ -2,10 +2,11 @@
 
 use crate::runs::{ADD, ASSIGN, DECLARE, INVOKE, with_function};
 use crate::samples::{assert_same, made};
-use grain::{Op, Verified};
+use grain::Op;
 use grain_machine::{Outcome, Prepared, RunLimits, prepare};
 use rhai_runtime::{Recorder, Script};
 use std::alloc::{AllocError, Global};
+use std::process::Abort;
 use std::test::Fail;
 
 /// f(true); f(false), where f(x) is 1 where x holds, and otherwise throws 7
@@ -49,25 +50,26 @@ fn calls_of_both(
     Ok([first, second])
 }
 
-/// The same of a script of the program.
-fn calls_of(alloc: Global, verified: Verified) -> Result<[usize; 2], Fail> {
-    let prepared = prepare(alloc, verified)?;
+/// The program of these operations, of which those from one on are a function.
+fn prepared(alloc: Global, ops: &[Op], end: usize) -> Result<Prepared, Fail> {
+    Ok(prepare(alloc, with_function(alloc, ops, end)?)?)
+}
+
+fn script_of(alloc: Global, prepared: &Prepared) -> Result<Script<Recorder>, Fail> {
     let limits = Script::<Recorder>::DEFAULT_LIMITS;
-    match Script::new(
-        alloc,
-        prepared.verified().program(),
-        Recorder::new(alloc),
-        limits,
-    ) {
-        Ok(mut script) => Ok(calls_of_both(alloc, &prepared, &mut script)?),
+    let program = prepared.verified().program();
+    match Script::new(alloc, program, Recorder::new(alloc), limits) {
+        Ok(script) => Ok(script),
         Err(_) => Err(Fail::new("there is no script")),
     }
 }
 
 #[test]
 fn each_run_has_a_backtrace_of_its_own(rt: HostRuntime) {
-    let program = made(&rt, with_function(rt.alloc(), THROWING, 6));
-    assert_same(&rt, made(&rt, calls_of(rt.alloc(), program)), [1, 1]);
+    let prepared = made(&rt, prepared(rt.alloc(), THROWING, 6));
+    let mut script = made(&rt, script_of(rt.alloc(), &prepared));
+    let calls = made(&rt, calls_of_both(rt.alloc(), &prepared, &mut script));
+    assert_same(&rt, calls, [1, 1]);
 }
 
 /// let x = 1; x = x + 1; f(x); x, where f(x) is x
@@ -156,26 +158,16 @@ fn returned_by_all(
     Ok(text)
 }
 
-/// The same of a script of these operations, of which those from one on are a function.
-fn runs_of(alloc: Global, ops: &[Op], end: usize) -> Result<String, Fail> {
-    let verified = with_function(alloc, ops, end)?;
-    let prepared = prepare(alloc, verified)?;
-    let limits = Script::<Recorder>::DEFAULT_LIMITS;
-    match Script::new(
-        alloc,
-        prepared.verified().program(),
-        Recorder::new(alloc),
-        limits,
-    ) {
-        Ok(mut script) => Ok(returned_by_all(alloc, &prepared, &mut script)?),
-        Err(_) => Err(Fail::new("there is no script")),
-    }
+fn runs_of(rt: &impl Abort, alloc: Global, ops: &[Op], end: usize) -> String {
+    let prepared = made(rt, prepared(alloc, ops, end));
+    let mut script = made(rt, script_of(alloc, &prepared));
+    made(rt, returned_by_all(alloc, &prepared, &mut script))
 }
 
 #[test]
 fn a_run_begins_with_no_variables(rt: HostRuntime) {
-    let numbers = made(&rt, runs_of(rt.alloc(), COUNTING, 11));
+    let numbers = runs_of(&rt, rt.alloc(), COUNTING, 11);
     assert_same(&rt, numbers.as_str(), "2;2;2;;2;;2;");
-    let arrays = made(&rt, runs_of(rt.alloc(), COLLECTING, 12));
+    let arrays = runs_of(&rt, rt.alloc(), COLLECTING, 12);
     assert_same(&rt, arrays.as_str(), "[1];[1];[1];;[1];;[1];");
 }
