@@ -121,13 +121,6 @@ fn object_of(alloc: Global, path: &str, found: Findings<'_>) -> Result<Vec<u8>, 
     line_of(json)
 }
 
-/// What scripts are compiled with, and how it is said what is wrong with them.
-#[derive(Clone, Copy)]
-struct Request<'a> {
-    surroundings: &'a Surroundings<'a>,
-    is_json: bool,
-}
-
 /// A script that can be compiled.
 #[derive(Drop)]
 struct Checked {
@@ -193,15 +186,20 @@ fn refuse(rt: &HostRuntime, is_json: bool, path: &str, failure: &Failure) -> Res
 }
 
 /// Compiles a script, says what is wrong with it, and returns whether it can be compiled.
-fn visit(rt: &HostRuntime, request: Request<'_>, path: &str) -> Result<bool, Failure> {
-    match check(rt, request.surroundings, path) {
+fn visit(
+    rt: &HostRuntime,
+    surroundings: &Surroundings<'_>,
+    is_json: bool,
+    path: &str,
+) -> Result<bool, Failure> {
+    match check(rt, surroundings, path) {
         Ok(checked) => {
-            show(rt, request.is_json, path, &checked)?;
+            show(rt, is_json, path, &checked)?;
             Ok(true)
         }
         Err(Failure::OutOfMemory) => Err(Failure::OutOfMemory),
         Err(failure) => {
-            refuse(rt, request.is_json, path, &failure)?;
+            refuse(rt, is_json, path, &failure)?;
             Ok(false)
         }
     }
@@ -210,13 +208,10 @@ fn visit(rt: &HostRuntime, request: Request<'_>, path: &str) -> Result<bool, Fai
 /// Compiles each script, and says what is wrong. The status is 1 if one can't be compiled.
 pub fn run(rt: &HostRuntime, matches: &ArgMatches<'_>) -> Result<u8, Failure> {
     let surroundings = Surroundings::of(rt, matches)?;
-    let request = Request {
-        surroundings: &surroundings,
-        is_json: matches.get_flag("json"),
-    };
+    let is_json = matches.get_flag("json");
     let mut status = 0u8;
     for path in matches.get_raw("FILE").unwrap_or_default() {
-        if !visit(rt, request, path)? {
+        if !visit(rt, &surroundings, is_json, path)? {
             status = 1;
         }
     }

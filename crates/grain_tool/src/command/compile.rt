@@ -42,10 +42,9 @@ pub const SUBCOMMAND: Subcommand = Subcommand {
     ],
 };
 
-/// What is made of a script, besides its program, and with what it is compiled.
+/// What is made of a script, besides its program.
 #[derive(Clone, Copy)]
-struct Wanted<'a> {
-    surroundings: &'a Surroundings<'a>,
+struct Wanted {
     /// The positions in a file of their own.
     sidecar: bool,
     /// No positions in the program.
@@ -63,9 +62,14 @@ fn strip(alloc: Global, path: &str, program: &mut Program) -> Result<Vec<u8>, Fa
 }
 
 /// The program of a script, with the name of the script if the arguments say so and it has one.
-fn program_of(rt: &HostRuntime, path: &str, wanted: Wanted<'_>) -> Result<Program, Failure> {
+fn program_of(
+    rt: &HostRuntime,
+    surroundings: &Surroundings<'_>,
+    path: &str,
+    wanted: Wanted,
+) -> Result<Program, Failure> {
     let script = text_of(rt.alloc(), path, read_bytes(rt, path)?)?;
-    let mut program = compiled(rt, wanted.surroundings, path, script.as_str())?.into_program();
+    let mut program = compiled(rt, surroundings, path, script.as_str())?.into_program();
     if wanted.source && path != STANDARD {
         let name = String::from_str(rt.alloc(), path)?;
         let _named = program.set_source(name);
@@ -74,9 +78,14 @@ fn program_of(rt: &HostRuntime, path: &str, wanted: Wanted<'_>) -> Result<Progra
 }
 
 /// The program file of a script, and the sidecar file, empty if the positions stay.
-fn made(rt: &HostRuntime, path: &str, wanted: Wanted<'_>) -> Result<(Vec<u8>, Vec<u8>), Failure> {
+fn made(
+    rt: &HostRuntime,
+    surroundings: &Surroundings<'_>,
+    path: &str,
+    wanted: Wanted,
+) -> Result<(Vec<u8>, Vec<u8>), Failure> {
     let alloc = rt.alloc();
-    let mut program = program_of(rt, path, wanted)?;
+    let mut program = program_of(rt, surroundings, path, wanted)?;
     let table = if wanted.stripped || wanted.sidecar {
         strip(alloc, path, &mut program)?
     } else {
@@ -92,7 +101,6 @@ pub fn run(rt: &HostRuntime, matches: &ArgMatches<'_>) -> Result<u8, Failure> {
     let sidecar = matches.get_str("sidecar");
     let surroundings = Surroundings::of(rt, matches)?;
     let wanted = Wanted {
-        surroundings: &surroundings,
         sidecar: sidecar.is_some(),
         stripped: matches.get_flag("strip"),
         source: !matches.get_flag("no-source"),
@@ -102,7 +110,7 @@ pub fn run(rt: &HostRuntime, matches: &ArgMatches<'_>) -> Result<u8, Failure> {
     if sidecar.is_some() {
         refuse_twice(rt, sidecar, to)?;
     }
-    let (bytes, table) = made(rt, path, wanted)?;
+    let (bytes, table) = made(rt, &surroundings, path, wanted)?;
     match sidecar {
         Some(sidecar) => write_both(rt, (sidecar, &table), (to, &bytes))?,
         None => write_binary(rt, to, &bytes)?,
