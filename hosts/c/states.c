@@ -156,7 +156,7 @@ static void try_modules(void) {
 /* What the table takes counts for the state until it is compiled. The names are such that a search from the first on would be slow. */
 static void try_many_modules(void) {
     enum { MANY = 20000 };
-    static char names[MANY][9];
+    static char names[MANY][16];
     static grain_module modules[MANY];
     grain_bounds bounds = GRAIN_BOUNDS_DEFAULT;
     grain_state *state, *other;
