@@ -502,7 +502,7 @@ fn reading_a_file_again_takes_no_memory() {
     LEFT.set(None);
     assert!(!IS_REFUSED.get() && decoded.is_some() && checked.is_ok() && place.is_some());
     assert!(called.is_some());
-    assert_eq!(counts, [2, 2, 13, 2, 1, 3, 1]);
+    assert_eq!(counts, [2, 2, 14, 2, 1, 3, 1]);
 }
 
 /// Whether an explanation ran out of memory. What it has is written, which takes none.
